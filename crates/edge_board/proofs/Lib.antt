@@ -1,0 +1,4 @@
+pub mod Filled
+pub mod Replays
+pub mod MemCalls
+pub mod SureCalls

@@ -1,0 +1,15 @@
+pub mod Board
+pub mod Causes
+pub mod Calls
+pub mod Runs
+pub mod Sends
+pub mod SourcePlan
+pub mod MemSource
+pub mod BoardPlan
+pub mod Events
+pub mod Picks
+pub mod Schedules
+pub mod MemBoard
+pub mod SureViews
+pub mod SureBoard
+pub mod Untold
