@@ -1,0 +1,130 @@
+//! Laws of the definitions, which no call computes.
+
+ghost use Rattle.std.specs.Prelude.{◌≡◌, ◌↔◌, ◌++◌, ◌<◌, ◌^◌, ℕ, ℤ, List, Some, All, IsTrue, length};
+ghost use Rattle.std.specs.List.{AllByRecursion, flat_map};
+ghost use Rattle.der_core.specs.Attribute.{AreElements, Attribute, attribute_text, IsAttribute};
+ghost use Rattle.der_core.specs.AttributeReading.{are_elements};
+ghost use Rattle.der_core.specs.Element.{enc, IsElement};
+ghost use Rattle.der_core.specs.Integer.{IsInteger, AreOctets, twos_complement, integer_contents};
+ghost use Rattle.der_core.specs.Integer.{IsLeastSpelling};
+ghost use Rattle.der_core.specs.Items.{IsItems, items, last_item, Splits};
+ghost use Rattle.der_core.specs.Moment.{IsMoment};
+ghost use Rattle.der_core.specs.Number.{number_contents, IsFewest};
+ghost use Rattle.der_core.specs.Objects.{oid_contents, AreSmall, IsOid};
+ghost use Rattle.der_core.specs.Reading.{subidentifiers_of, front_of, number_of, oid_of};
+ghost use Rattle.der_core.specs.Time.{utc_text, IsUtc, generalized_text, time_tag, time_contents};
+ghost use Rattle.der_core.specs.TimeReading.{time_of};
+
+/// No element begins another, so octets begin with at most one (X.690, section 8.1).
+pub fn one_element()
+    ensures { (tag tag' : ℕ) (contents contents' rest rest' : List ℕ)
+        → IsElement tag contents → IsElement tag' contents'
+        → enc tag contents ++ rest ≡ enc tag' contents' ++ rest'
+        → (tag ≡ tag') × (contents ≡ contents') × (rest ≡ rest') }
+{}
+
+/// A number's contents are the fewest octets whose two's complement range holds it (X.690,
+/// section 8.3.2).
+pub fn fewest_octets()
+    ensures { (n : ℕ) → IsFewest n (number_contents n) }
+{}
+
+/// Different numbers have different contents.
+pub fn one_number()
+    ensures { (n n' : ℕ) → number_contents n ≡ number_contents n' → n ≡ n' }
+{}
+
+/// The subidentifiers that octets are read as are those that spell them.
+pub fn one_list_of_subidentifiers()
+    ensures { (ss : List ℕ) → AreSmall ss → subidentifiers_of (oid_contents ss) ≡ Some ss }
+{}
+
+/// Different lists of subidentifiers have different contents.
+pub fn one_identifier()
+    ensures { (ss ss' : List ℕ) → AreSmall ss → AreSmall ss'
+        → oid_contents ss ≡ oid_contents ss' → ss ≡ ss' }
+{}
+
+/// An element is read as its tag and contents, whatever follows it.
+pub fn element_is_read()
+    ensures { (tag : ℕ) (contents rest : List ℕ) → IsElement tag contents
+        → front_of (enc tag contents ++ rest) ≡ Some (tag, (contents, rest)) }
+{}
+
+/// A number's contents are read as the number.
+pub fn number_is_read()
+    ensures { (n : ℕ) → n < 2 ^ 128 → number_of (number_contents n) ≡ Some n }
+{}
+
+/// An identifier's octets are read as the identifier.
+pub fn identifier_is_read()
+    ensures { (octets : List ℕ) → IsOid octets → oid_of octets ≡ Some octets }
+{}
+
+/// Octets are the contents of an INTEGER exactly where no fewer octets have the same two's
+/// complement (X.690, section 8.3.2).
+pub fn fewest_integer_octets()
+    ensures { (octets : List ℕ) → AreOctets octets
+        → IsInteger octets ↔ IsLeastSpelling (twos_complement octets) octets }
+{}
+
+/// Each integer, also one below 0, has one spelling as the contents of an INTEGER.
+pub fn one_integer_spelling()
+    ensures { (number : ℤ) (octets : List ℕ)
+        → (AreOctets octets × IsInteger octets × (twos_complement octets ≡ number))
+        ↔ (octets ≡ integer_contents number) }
+{}
+
+/// A moment is read back from the form in which it is written.
+pub fn written_time_is_read()
+    ensures { (moment : ℕ) → IsMoment moment
+        → time_of (time_tag moment) (time_contents moment) ≡ Some moment }
+{}
+
+/// Any octets have one list of items, which `items` reads, and are these items one after the other
+/// (a SEQUENCE is an element of X.690, section 8.9).
+pub fn one_list_of_items()
+    ensures read { (octets : List ℕ)
+        → All (λ octet. octet < 256) octets → IsItems octets (items octets) }
+    ensures only { (octets : List ℕ) (these those : List (List ℕ))
+        → IsItems octets these → IsItems octets those → these ≡ those }
+    ensures joined { (octets : List ℕ) (these : List (List ℕ))
+        → IsItems octets these → flat_map (λ item. item) these ≡ octets }
+{}
+
+/// The items of a stream are those that have ended so far, and then those of what the next one has
+/// had and all that is still to come. Where nothing comes, what it has had is the last.
+pub fn items_of_stream()
+    ensures going_on { (stream : List ℕ) (ended : List (List ℕ)) (so_far : List ℕ)
+        → Splits stream ended so_far
+        → (rest : List ℕ) (others : List (List ℕ)) → IsItems (so_far ++ rest) others
+        → IsItems (stream ++ rest) (ended ++ others) }
+    ensures at_end { (stream : List ℕ) (ended : List (List ℕ)) (so_far : List ℕ)
+        → Splits stream ended so_far → IsItems stream (ended ++ last_item so_far) }
+{}
+
+/// Different moments have different texts in each form.
+pub fn one_time()
+    ensures utc { (m n : ℕ) → IsUtc m → IsUtc n → utc_text m ≡ utc_text n → m ≡ n }
+    ensures generalized { (m n : ℕ) → IsMoment m → IsMoment n
+        → generalized_text m ≡ generalized_text n → m ≡ n }
+{}
+
+/// Different attributes have different texts.
+pub fn one_attribute()
+    ensures { (a b : Attribute) → IsAttribute a → IsAttribute b
+        → attribute_text a ≡ attribute_text b → a ≡ b }
+{}
+
+/// Octets that are found to be elements, one after the other, are the text of a list of elements.
+pub fn elements_one_after_the_other()
+    ensures { (octets : List ℕ) → AreOctets octets
+        → IsTrue (are_elements octets) ↔ AreElements octets }
+{}
+
+/// Where elements stand one after the other, one stands at the front, and elements follow it.
+pub fn elements_are_passed()
+    ensures { (octets : List ℕ) → IsTrue (are_elements octets) → 0 < length octets
+        → (tag : ℕ) × (contents : List ℕ) × (rest : List ℕ)
+        × (front_of octets ≡ Some (tag, (contents, rest))) × IsTrue (are_elements rest) }
+{}
