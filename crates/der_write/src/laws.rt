@@ -1,0 +1,41 @@
+//! Laws of the definitions: what is written is read back, whatever follows. Of any element
+//! `der_core` says so, by `element_is_read`.
+
+ghost use Rattle.std.specs.Prelude.{◌≡◌, ◌++◌, ◌<◌, ◌^◌, ℕ, List, Some, length};
+ghost use Rattle.std.specs.List.{AllByRecursion};
+ghost use Rattle.der_core.specs.Element.{enc};
+ghost use Rattle.der_core.specs.Number.{number_contents};
+ghost use Rattle.der_core.specs.Objects.{IsOid};
+ghost use Rattle.der_core.specs.Reading.{number_of, oid_of};
+ghost use Rattle.der_core.specs.Shapes.{element, listed, any_element, IsOneElement};
+ghost use Rattle.der_core.specs.Time.{time_tag, time_contents};
+ghost use Rattle.der_core.specs.Moment.{IsMoment};
+ghost use Rattle.der_core.specs.TimeReading.{time_of};
+ghost use Rattle.der_write.specs.Sets.{joined};
+
+/// A number that is written is read as that number.
+pub fn written_number_is_read()
+    ensures { (n : ℕ) (rest : List ℕ) → n < 2 ^ 128
+        → element 2 number_of (enc 2 (number_contents n) ++ rest) ≡ Some (n, rest) }
+{}
+
+/// An identifier that is written is read as that identifier.
+pub fn written_identifier_is_read()
+    ensures { (octets rest : List ℕ) → IsOid octets
+        → element 6 oid_of (enc 6 octets ++ rest) ≡ Some (octets, rest) }
+{}
+
+/// A time that is written is read as that moment.
+pub fn written_time_is_read()
+    ensures { (moment : ℕ) (rest : List ℕ) → IsMoment moment
+        → element (time_tag moment) (time_of (time_tag moment))
+        (enc (time_tag moment) (time_contents moment) ++ rest) ≡ Some (moment, rest) }
+{}
+
+/// A set that is written is read as its parts, in the order in which they stand.
+pub fn written_set_is_read()
+    ensures { (parts : List (List ℕ)) (rest : List ℕ) → AllByRecursion IsOneElement parts
+        → length (joined parts) < 2 ^ 32
+        → element 0x31 (listed any_element) (enc 0x31 (joined parts) ++ rest)
+        ≡ Some (parts, rest) }
+{}
