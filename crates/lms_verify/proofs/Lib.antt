@@ -1,0 +1,6 @@
+mod ChainLemmas
+mod CheckLemmas
+mod DigitLemmas
+mod TextLemmas
+mod TreeLemmas
+mod Writes
