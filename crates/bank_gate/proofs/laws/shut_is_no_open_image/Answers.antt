@@ -1,0 +1,8 @@
+use Rattle.bank_gate.specs.Images.{shut_images, shut_by_images}
+use Rattle.bank_gate.proofs.laws.shut_is_no_open_image.Goals as goal
+
+pub returns : goal.returns
+returns g c = λ told board place lies. (
+  shut_images place (g.B.Board.view board),
+  shut_by_images told place (g.B.Board.view board) (g.met.B.Board.honest board) lies,
+)

@@ -1,0 +1,3 @@
+pub mod Rows
+pub mod Ascents
+pub mod Events

@@ -1,0 +1,5 @@
+use Rattle.edge_board.specs.Runs.{touch}
+use Rattle.key_state.proofs.spending.spent.Goals as goal
+
+pub returns-clause-touches : goal.returns-clause-touches
+returns-clause-touches g c = touch _ _ (g.met.B.Board.honest c.args.board.now) c.read.ensures.effect
