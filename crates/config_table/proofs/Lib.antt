@@ -1,0 +1,5 @@
+pub mod SameLemmas
+pub mod PutLemmas
+pub mod StateLemmas
+pub mod KeyedLemmas
+pub mod MetLemmas

@@ -1,0 +1,270 @@
+// The tables of a module.
+ghost use Rattle.std.specs.Prelude.{◌≡◌, ◌↔◌, Some, IsTrue, IsSome, IsSomeAnd, IfOk, OnOk, OnErr, find, length, option_map, slice_get};
+ghost use Rattle.std.specs.Option.{option_map_or, option_copied};
+ghost use Rattle.package_attrs.specs.Kinds.{kinds_match};
+ghost use Rattle.config_table.specs.Names.{is_same, is_at_least};
+ghost use Rattle.config_table.specs.State.{empty_state, placed, raised_by, made_stale, greater, stale_of};
+ghost use Rattle.config_table.specs.Rules.{IsStale, IsInstalled, IsMet, IsDistinctState};
+ghost use Rattle.config_table.specs.Stored.{entry_of};
+
+use crate::key::Key;
+use crate::names::is_at_least;
+use crate::{Installed, StaleEntry};
+use indexmap::IndexMap;
+use package_attrs::{PackageName, Stale};
+use std::alloc::{AllocError, Global};
+use std::marker::Model;
+
+/// What a module has installed, in order of first installation, and what it takes for stale, in
+/// order of first mention. No identifier and no legacy name stands twice in either.
+#[derive(Drop)]
+pub struct State {
+    packages: IndexMap<Key, Installed>,
+    stale: IndexMap<Key, StaleEntry>,
+}
+
+impl Model for State {
+    ghost use Rattle.std.specs.Prelude.{map};
+    ghost use Rattle.indexmap.specs.IndexMap.{values};
+    ghost use Rattle.config_table.specs.State.{State as Tables, last_stale};
+    ghost use Rattle.config_table.specs.Stored.{Stored, entry_of, IsKeyed};
+
+    ghost Value = { Tables Stored };
+
+    ghost view = { λ s. record {
+      packages = map entry_of (values s.packages);
+      stale = values s.stale;
+    } };
+
+    ghost invariant = { λ s. IsKeyed (λ installed. installed.name) s.packages.entries
+        × IsKeyed last_stale s.stale.entries };
+}
+
+impl State {
+    /// Nothing is installed and nothing is stale. Takes no memory.
+    pub fn new(alloc: Global) -> State
+        ensures empty { result ≡ empty_state }
+    {
+        State {
+            packages: IndexMap::new(alloc),
+            stale: IndexMap::new(alloc),
+        }
+    }
+
+    /// How many packages are installed.
+    pub fn packages(&self) -> usize
+        ensures count { result ≡ length self.now.packages }
+        ensures distinct { IsDistinctState self.now }
+    {
+        self.packages.len()
+    }
+
+    /// The package at a place, counted from 0 in order of first installation.
+    pub fn package(&self, place: usize) -> Option<&Installed>
+        ensures entry { option_map (λ installed. entry_of installed.now) result
+            ≡ slice_get self.now.packages place }
+    {
+        match self.packages.get_index(place) {
+            Some((_, installed)) => Some(installed),
+            None => None,
+        }
+    }
+
+    /// The installed package of the name's identifier, in whatever version, or of its legacy name.
+    pub fn find(&self, name: &PackageName) -> Option<&Installed>
+        ensures entry { option_map (λ installed. entry_of installed.now) result
+            ≡ find (λ entry. is_same name.now entry.name) self.now.packages }
+        ensures found { IsSome result ↔ IsInstalled name.now self.now.packages }
+        ensures met { IsMet name.now self.now.packages
+            ↔ IsSomeAnd result (λ installed. IsTrue (is_at_least installed.now.name name.now)) }
+    {
+        self.packages.get(&Key { name: *name })
+    }
+
+    pub fn copy(&self) -> Result<State, AllocError>
+        ensures same { IfOk result (λ copy. copy ≡ self.now) }
+    {
+        Ok(State {
+            packages: self.packages.clone()?,
+            stale: self.stale.clone()?,
+        })
+    }
+
+    /// Puts a package into the place of the one with its identifier or its legacy name, or last.
+    pub fn replace(&mut self, installed: Installed) -> Result<(), AllocError>
+        ensures ok { OnOk result (self.new
+            ≡ record self.old { packages = placed (entry_of installed) self.old.packages }) }
+        ensures err { OnErr result (self.new ≡ self.old) }
+    {
+        let key = Key {
+            name: installed.name,
+        };
+        self.packages.insert(key, installed)?;
+        Ok(())
+    }
+
+    /// Makes stale what the stale value says beside the name: an identifier's number becomes the
+    /// greater of its own and this one, and what isn't there yet goes last.
+    pub fn raise_stale(&mut self, name: &PackageName, stale: &Stale) -> Result<(), AllocError>
+        requires alike { IsTrue (kinds_match name.now (Some stale.now)) }
+        ensures ok { OnOk result (self.new ≡ record self.old {
+          stale = raised_by (made_stale name.now stale.now) self.old.stale;
+        }) }
+        ensures err { OnErr result (self.new ≡ self.old) }
+    {
+        let Some(made) = StaleEntry::made(name, stale) else {
+            unreachable!();
+        };
+        let key = Key { name: made.last() };
+        let entry = raised_entry(self.stale.get(&key), made);
+        self.stale.insert(key, entry)?;
+        Ok(())
+    }
+
+    /// The greatest version of the name's identifier that is stale, or 0 where the legacy name is.
+    /// None where the list has no entry of that identifier or legacy name.
+    pub fn stale_of(&self, name: &PackageName) -> Option<u128>
+        ensures number { result ≡ stale_of name.now self.now }
+    {
+        match self.stale.get(&Key { name: *name }) {
+            Some(entry) => Some(entry.number()),
+            None => None,
+        }
+    }
+
+    /// Whether the name is stale.
+    pub fn stale_hit(&self, name: &PackageName) -> bool
+        ensures stale { IsTrue result ↔ IsStale name.now self.now.stale }
+    {
+        match self.stale.get(&Key { name: *name }) {
+            Some(entry) => is_at_least(&entry.last(), name),
+            None => false,
+        }
+    }
+
+    /// How many stale entries there are.
+    pub fn stale_entries(&self) -> usize
+        ensures count { result ≡ length self.now.stale }
+        ensures distinct { IsDistinctState self.now }
+    {
+        self.stale.len()
+    }
+
+    /// The stale entry at a place, counted from 0 in order of first mention.
+    pub fn stale_entry(&self, place: usize) -> Option<StaleEntry>
+        ensures entry { result ≡ slice_get self.now.stale place }
+    {
+        match self.stale.get_index(place) {
+            Some((_, entry)) => Some(*entry),
+            None => None,
+        }
+    }
+}
+
+// The entry that stands for its identifier or legacy name once this one is raised.
+fn raised_entry(old: Option<&StaleEntry>, made: StaleEntry) -> StaleEntry
+    ensures raised { result
+        ≡ option_map_or (λ old. greater old made) (option_copied old.entry) made }
+{
+    match old {
+        Some(old) => old.greater(&made),
+        None => made,
+    }
+}
+
+#[cfg(test)]
+mod tests {
+    use super::*;
+    use crate::BlockNumbers;
+    use der_core::{Octets64, read_oid};
+    use package_attrs::Names;
+    use std::test::Fail;
+
+    // 1.2.3 and the octet in this version, or the legacy name of that octet.
+    fn name(octet: u8, version: Option<u128>) -> Option<PackageName> {
+        match version {
+            Some(version) => {
+                let id = read_oid(&[0x2a, 3, octet])?;
+                Some(PackageName::Preferred { id, version })
+            }
+            None => Some(PackageName::Legacy(Octets64::new(&[octet])?)),
+        }
+    }
+
+    fn install(
+        alloc: Global,
+        state: &mut State,
+        name: Option<PackageName>,
+        length: u32,
+    ) -> Result<(), Fail> {
+        let installed = Installed {
+            name: name.ok_or("a bad name")?,
+            digest: [7; 32],
+            length,
+            blocks: BlockNumbers::new(Vec::new(alloc)),
+            kind: None,
+            needs: Names::new(Vec::new(alloc)),
+        };
+        state.replace(installed)?;
+        Ok(())
+    }
+
+    fn lengths(state: &State) -> [Option<u32>; 4] {
+        let length = |place: usize| state.package(place).map(|installed| installed.length);
+        [length(0), length(1), length(2), length(3)]
+    }
+
+    // The identifier 2 comes twice and keeps its place, and so does the legacy name 2.
+    #[test]
+    fn keeps_places(rt: HostRuntime) -> Result<(), Fail> {
+        let mut state = State::new(rt.alloc());
+        install(rt.alloc(), &mut state, name(2, Some(4)), 1)?;
+        install(rt.alloc(), &mut state, name(3, Some(1)), 2)?;
+        install(rt.alloc(), &mut state, name(2, None), 3)?;
+        install(rt.alloc(), &mut state, name(2, Some(5)), 4)?;
+        install(rt.alloc(), &mut state, name(2, None), 5)?;
+        assert_eq!(rt; lengths(&state.copy()?), [Some(4), Some(2), Some(5), None]);
+        assert_eq!(rt; state.packages(), 3);
+        Ok(())
+    }
+
+    fn raise(state: &mut State, octet: u8, number: Option<u128>) -> Result<(), Fail> {
+        match name(octet, number).ok_or("a bad name")? {
+            PackageName::Preferred { id, version } => {
+                let name = PackageName::Preferred { id, version: 0 };
+                state.raise_stale(&name, &Stale::Upto(version))?;
+            }
+            PackageName::Legacy(octets) => {
+                state.raise_stale(&PackageName::Legacy(octets), &Stale::Legacy(octets))?;
+            }
+        }
+        Ok(())
+    }
+
+    // The number of a name, and whether the name is stale.
+    fn standing(state: &State, name: Option<PackageName>) -> Option<(u128, bool)> {
+        let name = name?;
+        Some((state.stale_of(&name)?, state.stale_hit(&name)))
+    }
+
+    // A smaller number lowers nothing, and a legacy name has none.
+    #[test]
+    fn raises_stale_numbers(rt: HostRuntime) -> Result<(), Fail> {
+        let mut state = State::new(rt.alloc());
+        raise(&mut state, 1, Some(9))?;
+        raise(&mut state, 5, None)?;
+        raise(&mut state, 1, Some(3))?;
+        assert_eq!(rt; standing(&state, name(1, Some(9))), Some((9, true)));
+        assert_eq!(rt; standing(&state, name(1, Some(10))), Some((9, false)));
+        assert_eq!(rt; standing(&state, name(5, None)), Some((0, true)));
+        assert_eq!(rt; standing(&state, name(1, None)), None);
+        assert_eq!(rt; state.stale_entries(), 2);
+        assert!(rt;
+            matches!(
+                &state.stale_entry(0),
+                Some(StaleEntry::Preferred { upto: 9, .. })
+            )
+        );
+        Ok(())
+    }
+}
