@@ -1,0 +1,4 @@
+pub mod WordsLemmas
+pub mod ReplyLemmas
+pub mod AnswerLemmas
+pub mod TripleLaws

@@ -1,0 +1,29 @@
+-- The commands: their words, their limits and what they may write; this project's own.
+use Rattle.std.specs.Prelude.{◌≡◌, ℕ, ◌^◌, List, [], ◌∷◌, map, string_bytes, codes}
+use Rattle.std.specs.Global.{Global}
+use Rattle.std.specs.declared.string.String.{String}
+use Rattle.fwload_top.specs.declared.words.Command.{Command}
+use Rattle.fwload_top.specs.declared.words.Command.TheVariants as commands
+
+-- the words of a command, after the flash file's name
+abbrev pub words_of : Command → List (List ℕ)
+words_of commands.Ident = codes "ident" ∷ []
+words_of commands.Sigcheck = codes "sigcheck" ∷ []
+
+-- the words are the flash file's name, which may be anything, and then the command's
+abbrev pub Spells : List (List ℕ) → Command → Type 0
+Spells words c = (file : List ℕ) × (words ≡ file ∷ words_of c)
+
+-- the words ask for the command
+abbrev pub Asks : List (String Global) → Command → Type 0
+Asks words c = Spells (map string_bytes words) c
+
+-- the most octets of input that a command takes
+abbrev pub limit_of : Command → ℕ
+limit_of commands.Ident = 2 ^ 26
+limit_of commands.Sigcheck = 2 ^ 26
+
+-- the command writes no flash
+abbrev pub WritesNoFlash : Command → Type 0
+WritesNoFlash commands.Ident = Unit {0}
+WritesNoFlash commands.Sigcheck = Unit {0}
