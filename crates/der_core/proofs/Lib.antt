@@ -18,3 +18,4 @@ pub mod Heads
 pub mod Steps
 pub mod Streams
 pub mod AttributeLaws
+pub mod AskedLemmas

@@ -20,3 +20,4 @@ pub mod Splitter
 pub mod Attribute
 pub mod AttributeReading
 pub mod AttributeView
+pub mod Asked

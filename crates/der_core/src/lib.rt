@@ -31,6 +31,7 @@
 //! - `Condition` is one of the 41 conditions under which a package is accepted. `Condition::new`
 //!   takes 1 to 41 and no other number (`found`), and `Condition::error` and `Condition::code` give
 //!   the code of RFC 4108 that a failing one is answered with (`error`, `code`).
+//! - `specs/Asked` says of conditions in an order that all hold, or that one is the first that fails.
 //! - `laws` has what follows from the definitions alone: no element begins another, contents are
 //!   the fewest octets, different values have different texts, and a text is read as its value.
 //!
