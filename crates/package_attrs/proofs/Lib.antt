@@ -1,1 +1,6 @@
 pub mod IdentifierLaws
+pub mod Falls
+pub mod ListLaws
+pub mod ReadingLemmas
+pub mod PackageLaws
+pub mod OwnTypes

@@ -1,3 +1,12 @@
 pub mod Kinds
 pub mod Identifier
 pub mod Reading
+pub mod ListReading
+pub mod Description
+pub mod Targets
+pub mod Communities
+pub mod Information
+pub mod AttributeTypes
+pub mod Attributes
+pub mod Image
+pub mod PackageReading

@@ -1,7 +1,7 @@
 -- The reading of names and identifiers (RFC 4108, section 2.2.3), by the shapes of their texts.
 use Rattle.std.specs.Prelude.{ℕ, List}
 use Rattle.der_core.specs.Reading.{number_of, oid_of, octets_of}
-use Rattle.der_core.specs.Shapes.{Front, Whole, element, alone, before, optional, choice, mapped, tested}
+use Rattle.der_core.specs.Shapes.{Front, Whole, element, alone, before, optional, choice, mapped, tested, anything}
 use Rattle.package_attrs.specs.declared.name.PackageName.{PackageName}
 use Rattle.package_attrs.specs.declared.name.PackageName.TheVariants as names
 use Rattle.package_attrs.specs.declared.name.Stale.{Stale}
@@ -13,9 +13,17 @@ use Rattle.package_attrs.specs.Kinds.{kinds_match}
 unfoldable pub pair_of : Whole (List ℕ × ℕ)
 pair_of = before (element 0x06 oid_of) (alone (element 0x02 number_of))
 
--- a legacy value at the front
-unfoldable pub legacy_at : Front (List ℕ)
-legacy_at = element 0x04 octets_of
+-- an identifier at the front
+unfoldable pub oid_at : Front (List ℕ)
+oid_at = element 0x06 oid_of
+
+-- an OCTET STRING of 1 to 64 octets at the front
+unfoldable pub octets_at : Front (List ℕ)
+octets_at = element 0x04 octets_of
+
+-- the contents of one OCTET STRING, of any length
+unfoldable pub octet_string_of : Whole (List ℕ)
+octet_string_of = alone (element 0x04 anything)
 
 -- a name at the front: preferred where a SEQUENCE stands there, else legacy
 unfoldable pub name_at : Front PackageName

@@ -1,5 +1,5 @@
 // Names of packages, and what makes packages of a name stale.
-ghost use Rattle.package_attrs.specs.Reading.{pair_of, legacy_at, name_at, stale_at};
+ghost use Rattle.package_attrs.specs.Reading.{pair_of, octets_at, name_at, stale_at};
 ghost use Rattle.der_core.specs.Reads.{Answers};
 
 use der_core::{Cursor, Octets64, Oid, read_oid, read_u128, tags};
@@ -37,16 +37,16 @@ fn read_preferred(parts: &[u8]) -> Option<(Oid, u128)>
     }
 }
 
-// The legacy value at the front.
-#[tactic(auto, unfolding(crate::specs::Reading::legacy_at))]
-fn read_legacy(fields: &mut Cursor<'_>) -> Option<Octets64>
-    ensures exact { Answers (λ octets. (octets, fields.new)) result (legacy_at fields.old) }
+// The 1 to 64 octets at the front.
+#[tactic(auto, unfolding(crate::specs::Reading::octets_at))]
+pub(crate) fn read_octets(fields: &mut Cursor<'_>) -> Option<Octets64>
+    ensures exact { Answers (λ octets. (octets, fields.new)) result (octets_at fields.old) }
 {
     Octets64::some(fields.tagged(tags::OCTET_STRING)?)
 }
 
 // The name at the front.
-#[tactic(auto, unfolding(crate::specs::Reading::name_at, crate::specs::Reading::legacy_at))]
+#[tactic(auto, unfolding(crate::specs::Reading::name_at, crate::specs::Reading::octets_at))]
 pub(crate) fn read_name(fields: &mut Cursor<'_>) -> Option<PackageName>
     ensures exact { Answers (λ name. (name, fields.new)) result (name_at fields.old) }
 {
@@ -54,18 +54,18 @@ pub(crate) fn read_name(fields: &mut Cursor<'_>) -> Option<PackageName>
         let (id, version) = read_preferred(fields.tagged(tags::SEQUENCE)?)?;
         Some(PackageName::Preferred { id, version })
     } else {
-        Some(PackageName::Legacy(read_legacy(fields)?))
+        Some(PackageName::Legacy(read_octets(fields)?))
     }
 }
 
 // The stale value at the front.
-#[tactic(auto, unfolding(crate::specs::Reading::stale_at, crate::specs::Reading::legacy_at))]
+#[tactic(auto, unfolding(crate::specs::Reading::stale_at, crate::specs::Reading::octets_at))]
 pub(crate) fn read_stale(fields: &mut Cursor<'_>) -> Option<Stale>
     ensures exact { Answers (λ stale. (stale, fields.new)) result (stale_at fields.old) }
 {
     if fields.is_at(tags::INTEGER) {
         Some(Stale::Upto(read_u128(fields.tagged(tags::INTEGER)?)?))
     } else {
-        Some(Stale::Legacy(read_legacy(fields)?))
+        Some(Stale::Legacy(read_octets(fields)?))
     }
 }

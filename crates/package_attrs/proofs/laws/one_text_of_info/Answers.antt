@@ -1,0 +1,9 @@
+use Rattle.package_attrs.proofs.ListLaws.{info-whole}
+use Rattle.package_attrs.proofs.ReadingLemmas.{one_text}
+use Rattle.package_attrs.proofs.laws.one_text_of_info.Goals as goal
+
+pub returns-clause-unique : goal.returns-clause-unique
+returns-clause-unique c = one_text info-whole
+
+pub returns-clause-read : goal.returns-clause-read
+returns-clause-read c = info-whole.again
