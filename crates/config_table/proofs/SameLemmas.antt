@@ -10,4 +10,5 @@ is_same-left = is_same-equivalence.congr
 
 -- and a third beside them
 pub is_same-right : (a b c : PackageName) → is_same a b ≡ true → is_same c a ≡ is_same c b
-is_same-right a b c same = is_same-equivalence.symm c a ∙ is_same-equivalence.congr a b c same ∙ is_same-equivalence.symm b c
+is_same-right a b c same =
+    is_same-equivalence.symm c a ∙ is_same-equivalence.congr a b c same ∙ is_same-equivalence.symm b c

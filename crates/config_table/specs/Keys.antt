@@ -26,12 +26,14 @@ same_symm (names.Legacy octets) (names.Preferred id version) = refl
 same_symm (names.Legacy octets) (names.Legacy octets') = nat_list_eq_equiv.symm octets octets'
 
 same_congr : (a b c : PackageName) → is_same a b ≡ true → is_same a c ≡ is_same b c
-same_congr (names.Preferred id version) (names.Preferred id' version') (names.Preferred id'' version'') e = nat_list_eq_equiv.congr id id' id'' e
+same_congr (names.Preferred id version) (names.Preferred id' version') (names.Preferred id'' version'') e =
+    nat_list_eq_equiv.congr id id' id'' e
 same_congr (names.Preferred id version) (names.Preferred id' version') (names.Legacy octets) e = refl
 same_congr (names.Preferred id version) (names.Legacy octets) c e = absurd (true≢false (sym e))
 same_congr (names.Legacy octets) (names.Preferred id version) c e = absurd (true≢false (sym e))
 same_congr (names.Legacy octets) (names.Legacy octets') (names.Preferred id version) e = refl
-same_congr (names.Legacy octets) (names.Legacy octets') (names.Legacy octets'') e = nat_list_eq_equiv.congr octets octets' octets'' e
+same_congr (names.Legacy octets) (names.Legacy octets') (names.Legacy octets'') e =
+    nat_list_eq_equiv.congr octets octets' octets'' e
 
 -- being the same package is an equivalence
 pub is_same-equivalence : IsEquivalence is_same
@@ -39,7 +41,9 @@ is_same-equivalence = record { refl = same_refl; symm = same_symm; congr = same_
 
 -- names of the same package are hashed alike
 pub is_same-name_hash : (a b : PackageName) → is_same a b ≡ true → name_hash a ≡ name_hash b
-is_same-name_hash (names.Preferred id version) (names.Preferred id' version') e = ap (λ octets. fed.u8 0 ++ fed.slice fed.u8 octets) ((bytes_eq-Decides id id').0 e)
+is_same-name_hash (names.Preferred id version) (names.Preferred id' version') e =
+    ap (λ octets. fed.u8 0 ++ fed.slice fed.u8 octets) ((bytes_eq-Decides id id').0 e)
 is_same-name_hash (names.Preferred id version) (names.Legacy octets) e = absurd (true≢false (sym e))
 is_same-name_hash (names.Legacy octets) (names.Preferred id version) e = absurd (true≢false (sym e))
-is_same-name_hash (names.Legacy octets) (names.Legacy octets') e = ap (λ octets. fed.u8 1 ++ fed.slice fed.u8 octets) ((bytes_eq-Decides octets octets').0 e)
+is_same-name_hash (names.Legacy octets) (names.Legacy octets') e =
+    ap (λ octets. fed.u8 1 ++ fed.slice fed.u8 octets) ((bytes_eq-Decides octets octets').0 e)

@@ -1,11 +1,12 @@
 -- What a module has installed, and what it takes for stale (RFC 4108, section 2.2.3).
-use Rattle.std.specs.Prelude.{ℕ, List, [], ◌∷◌, map, length, max, Option, Some, None, option_map, if◌then◌else◌}
+use Rattle.std.specs.Prelude.{ℕ, List, [], ◌∷◌, map, length, max, Option, Some, None, option_map, option_and_then, if◌then◌else◌}
 use Rattle.std.specs.List.{find}
 use Rattle.sha2.specs.Sha256.{sha256}
 use Rattle.package_attrs.specs.declared.name.PackageName.{PackageName}
 use Rattle.package_attrs.specs.declared.name.PackageName.TheVariants as names
 use Rattle.package_attrs.specs.declared.name.Stale.{Stale}
 use Rattle.package_attrs.specs.declared.name.Stale.TheVariants as values
+use Rattle.package_attrs.specs.Description.{Description}
 use Rattle.config_table.specs.declared.stale_entry.StaleEntry.{StaleEntry}
 use Rattle.config_table.specs.declared.stale_entry.StaleEntry.TheVariants as entries
 use Rattle.config_table.specs.Names.{is_same}
@@ -39,6 +40,16 @@ made_stale (names.Preferred id version) (values.Legacy octets) = None
 made_stale (names.Legacy name) (values.Upto upto) = None
 made_stale (names.Legacy name) (values.Legacy octets) = Some (entries.Legacy octets)
 
+-- what a package of this description brings: its name, the entry that its stale value makes beside the name, its type
+-- and its dependencies
+abbrev pub offer_of : Description → Offer
+offer_of described = record {
+  name = described.identifier.name;
+  makes_stale = option_and_then (made_stale described.identifier.name) described.identifier.stale;
+  kind = described.info.kind;
+  needs = described.info.dependencies;
+}
+
 -- the last name that an entry makes stale
 abbrev pub last_stale : StaleEntry → PackageName
 last_stale (entries.Preferred id upto) = names.Preferred id upto
@@ -63,7 +74,9 @@ stale_of name state = option_map stale_number (find (λ entry. is_same name (las
 -- into the place of the one that names the same package, as what `join` makes of the two, or last
 abbrev pub put : {X : Type 0} → (X → PackageName) → (X → X → X) → X → List X → List X
 put name join new [] = new ∷ []
-put name join new (old ∷ rest) = if is_same (name new) (name old) then join old new ∷ rest else old ∷ put name join new rest
+put name join new (old ∷ rest) =
+    if is_same (name new) (name old) then join old new ∷ rest
+    else old ∷ put name join new rest
 
 -- a package takes the place of the one with its identifier or its legacy name, or goes last
 abbrev pub placed : {I : Type 0} → Entry I → List (Entry I) → List (Entry I)
@@ -85,7 +98,13 @@ raised_by (Some new) stale = raised new stale
 
 -- the entry of an offered package whose image has this digest
 abbrev pub entry_for : {I : Type 0} → Offer → List ℕ → I → Entry I
-entry_for offer digest image = record { name = offer.name; digest = digest; image = image; kind = offer.kind; needs = offer.needs }
+entry_for offer digest image = record {
+  name = offer.name;
+  digest = digest;
+  image = image;
+  kind = offer.kind;
+  needs = offer.needs;
+}
 
 -- the state with an offered package, whose image has this digest
 abbrev pub with_package : {I : Type 0} → Offer → List ℕ → I → State I → State I
@@ -108,7 +127,13 @@ empty_state = record { packages = []; stale = [] }
 
 -- the same packages, with other stands for their images
 abbrev pub entry_with : {I J : Type 0} → (I → J) → Entry I → Entry J
-entry_with f entry = record { name = entry.name; digest = entry.digest; image = f entry.image; kind = entry.kind; needs = entry.needs }
+entry_with f entry = record {
+  name = entry.name;
+  digest = entry.digest;
+  image = f entry.image;
+  kind = entry.kind;
+  needs = entry.needs;
+}
 
 abbrev pub state_with : {I J : Type 0} → (I → J) → State I → State J
 state_with f state = record { packages = map (entry_with f) state.packages; stale = state.stale }

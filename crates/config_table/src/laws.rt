@@ -19,8 +19,8 @@ pub fn names_stay_distinct()
 pub fn stale_stays_stale()
     ensures stale { (packages : List (Offer × List ℕ)) (state : State (List ℕ)) (name : PackageName)
         → IsStale name state.stale → IsStale name (made_by packages state).stale }
-    ensures number { (packages : List (Offer × List ℕ)) (state : State (List ℕ)) (name : PackageName)
-        (before : ℕ) → stale_of name state ≡ Some before
+    ensures number { (packages : List (Offer × List ℕ)) (state : State (List ℕ))
+        (name : PackageName) (before : ℕ) → stale_of name state ≡ Some before
         → (after : ℕ) × (stale_of name (made_by packages state) ≡ Some after) × (before ≤ after) }
 {}
 
@@ -28,7 +28,8 @@ pub fn stale_stays_stale()
 pub fn packages_keep_their_places()
     ensures place { (packages : List (Offer × List ℕ)) (state : State (List ℕ)) (place : ℕ)
         (before : Entry (List ℕ)) → slice_get state.packages place ≡ Some before
-        → (after : Entry (List ℕ)) × (slice_get (made_by packages state).packages place ≡ Some after)
+        → (after : Entry (List ℕ))
+        × (slice_get (made_by packages state).packages place ≡ Some after)
         × IsTrue (is_same after.name before.name) }
 {}
 
@@ -49,7 +50,8 @@ pub fn new_names_go_last()
     ensures placed { (new : Entry Stored) (state : State Stored)
         → ¬ IsInstalled new.name state.packages
         → placed new state.packages ≡ state.packages ++ new ∷ [] }
-    ensures stale { (new : StaleEntry) (state : State Stored) → stale_of (last_stale new) state ≡ None
+    ensures stale { (new : StaleEntry) (state : State Stored)
+        → stale_of (last_stale new) state ≡ None
         → raised new state.stale ≡ state.stale ++ new ∷ [] }
 {}
 

@@ -3,16 +3,18 @@
 //!
 //! - `State` is seen as two lists, in order of first installation and of first mention, and in
 //!   neither do an identifier or a legacy name stand twice (`packages`: `distinct`).
-//! - `replace` and `raise_stale` are the two halves of an installation, `with_package`: a package
-//!   takes the place of the one with its identifier or its legacy name, or goes last; an
-//!   identifier's stale number becomes the greater one (`ok`). On want of memory the state is as
-//!   it was (`err`).
+//! - `with_package` accepts a package: it takes the place of the one with its identifier or its
+//!   legacy name, or goes last, and an identifier's stale number becomes the greater one (`ok`).
+//!   `replace` and `raise_stale` are its two halves (`ok`), and on want of memory they leave the
+//!   state as it was (`err`).
 //! - `package`, `find`, `stale_of`, `stale_hit` and `stale_entry` answer by the lists, and None
-//!   exactly where a list has no such entry (`entry`, `found`, `met`, `number`, `stale`). `copy` equals
-//!   its source (`same`).
+//!   exactly where a list has no such entry (`entry`, `found`, `met`, `number`, `stale`). `copy`
+//!   equals its source (`same`).
+//! - `StaleEntry::made` is the entry that a stale value makes beside a name (`made`), and
+//!   `StaleEntry::last` the last name that an entry makes stale (`last`).
 //! - `names_stay_distinct`, `stale_stays_stale`, `packages_keep_their_places`,
-//!   `new_names_go_last`, `needs_after_a_package` and `images_stand_apart` are laws of the definitions in `specs/State`,
-//!   over any list of installed packages.
+//!   `new_names_go_last`, `needs_after_a_package` and `images_stand_apart` are laws of the
+//!   definitions in `specs/State`, over any list of installed packages.
 //!
 //! The definitions are generic in what stands for an image: its octets, their number, or the
 //! blocks of flash that hold it (`Stored`), as the tables here keep it.

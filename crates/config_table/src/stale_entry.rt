@@ -15,8 +15,8 @@ pub enum StaleEntry {
 }
 
 impl StaleEntry {
-    // The entry that a stale value makes beside a name, if it is of the name's kind.
-    pub(crate) fn made(name: &PackageName, stale: &Stale) -> Option<StaleEntry>
+    /// The entry that a stale value makes beside a name, if it is of the name's kind.
+    pub fn made(name: &PackageName, stale: &Stale) -> Option<StaleEntry>
         ensures made { result ≡ made_stale name.now stale.now }
     {
         match (name, stale) {
@@ -30,8 +30,8 @@ impl StaleEntry {
         }
     }
 
-    // The last name that the entry makes stale.
-    pub(crate) fn last(&self) -> PackageName
+    /// The last name that the entry makes stale.
+    pub fn last(&self) -> PackageName
         ensures last { result ≡ last_stale self.now }
     {
         match self {

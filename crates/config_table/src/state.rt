@@ -3,15 +3,16 @@ ghost use Rattle.std.specs.Prelude.{◌≡◌, ◌↔◌, Some, IsTrue, IsSome, 
 ghost use Rattle.std.specs.Option.{option_map_or, option_copied};
 ghost use Rattle.package_attrs.specs.Kinds.{kinds_match};
 ghost use Rattle.config_table.specs.Names.{is_same, is_at_least};
-ghost use Rattle.config_table.specs.State.{empty_state, placed, raised_by, made_stale, greater, stale_of};
+ghost use Rattle.package_attrs.specs.Description.{description};
+ghost use Rattle.config_table.specs.State.{empty_state, placed, raised_by, made_stale, greater, stale_of, offer_of, with_package};
 ghost use Rattle.config_table.specs.Rules.{IsStale, IsInstalled, IsMet, IsDistinctState};
 ghost use Rattle.config_table.specs.Stored.{entry_of};
 
 use crate::key::Key;
 use crate::names::is_at_least;
-use crate::{Installed, StaleEntry};
+use crate::{BlockNumbers, Installed, StaleEntry};
 use indexmap::IndexMap;
-use package_attrs::{PackageName, Stale};
+use package_attrs::{Package, PackageName, Stale};
 use std::alloc::{AllocError, Global};
 use std::marker::Model;
 
@@ -121,6 +122,36 @@ impl State {
         Ok(())
     }
 
+    /// The state with an offered package that is accepted: it goes into the place of the one with
+    /// its identifier or its legacy name, or last, with its type and its dependencies, and its
+    /// stale value is raised. Its image has this SHA-256 digest, this length in octets and these
+    /// blocks. On want of memory the state is gone.
+    pub fn with_package(
+        self,
+        offered: &Package,
+        digest: [u8; 32],
+        length: u32,
+        blocks: BlockNumbers,
+    ) -> Result<State, AllocError>
+        ensures ok { IfOk result (λ state. state ≡ with_package (offer_of (description offered.now))
+            digest (record { length = length; blocks = blocks }) self) }
+    {
+        let identifier = &offered.identifier;
+        let mut state = self;
+        state.replace(Installed {
+            name: identifier.name,
+            digest,
+            length,
+            blocks,
+            kind: offered.info.kind,
+            needs: offered.info.dependencies.clone()?,
+        })?;
+        if let Some(stale) = &identifier.stale {
+            state.raise_stale(&identifier.name, stale)?;
+        }
+        Ok(state)
+    }
+
     /// The greatest version of the name's identifier that is stale, or 0 where the legacy name is.
     /// None where the list has no entry of that identifier or legacy name.
     pub fn stale_of(&self, name: &PackageName) -> Option<u128>
@@ -177,7 +208,7 @@ mod tests {
     use super::*;
     use crate::BlockNumbers;
     use der_core::{Octets64, read_oid};
-    use package_attrs::Names;
+    use package_attrs::{Identifier, Info, Names, Oids};
     use std::test::Fail;
 
     // 1.2.3 and the octet in this version, or the legacy name of that octet.
@@ -265,6 +296,43 @@ mod tests {
                 Some(StaleEntry::Preferred { upto: 9, .. })
             )
         );
+        Ok(())
+    }
+
+    // 1.2.3.6 in version 2, which makes version 1 stale, has type 9 and needs 1.2.3.4.
+    fn offered(alloc: Global) -> Result<Package, Fail> {
+        let id = read_oid(&[0x2a, 3, 6]).ok_or("a bad name")?;
+        let identifier = Identifier {
+            name: PackageName::Preferred { id, version: 2 },
+            stale: Some(Stale::Upto(1)),
+        };
+        let need = name(4, Some(1)).ok_or("a bad name")?;
+        Ok(Package {
+            content: id,
+            digest: [0; 32],
+            identifier,
+            targets: Oids::new(Vec::new(alloc)),
+            communities: None,
+            info: Info {
+                kind: Some(9),
+                dependencies: Names::new(vec![in alloc; need]?),
+            },
+        })
+    }
+
+    // Memory is left, so the package is taken.
+    #[test]
+    fn takes_an_accepted_package(rt: HostRuntime) -> Result<(), Fail> {
+        let mut state = State::new(rt.alloc());
+        install(rt.alloc(), &mut state, name(6, Some(1)), 1)?;
+        let blocks = BlockNumbers::new(vec![in rt.alloc(); 3]?);
+        let state = state.with_package(&offered(rt.alloc())?, [1; 32], 5, blocks)?;
+        assert_eq!(rt; state.packages(), 1);
+        let installed = state.package(0).ok_or("none is installed")?;
+        assert_eq!(rt; (installed.length, installed.kind), (5, Some(9)));
+        assert_eq!(rt; installed.blocks.as_slice(), [3].as_slice());
+        assert_eq!(rt; installed.needs.as_slice().len(), 1);
+        assert_eq!(rt; standing(&state, name(6, Some(1))), Some((1, true)));
         Ok(())
     }
 }

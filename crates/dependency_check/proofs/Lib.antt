@@ -1,2 +1,3 @@
 pub mod PlaceLemmas
 pub mod NeedLemmas
+pub mod UnmetLemmas

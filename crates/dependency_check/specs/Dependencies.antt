@@ -26,12 +26,24 @@ pub record FailsFirstAt {A : Type 0} (P : A → Type 0) (xs : List A) (place : �
 -- the first dependency that isn't installed; or all are, and the first that is installed in too small a version
 abbrev pub IsFirstUnmet : {I : Type 0} → List PackageName → List (Entry I) → Unmet → Type 0
 IsFirstUnmet needs packages (Missing place) = FailsFirstAt (λ need. IsInstalled need packages) needs place
-IsFirstUnmet needs packages (TooOld place) = AllInstalled needs packages × FailsFirstAt (λ need. IsMet need packages) needs place
+IsFirstUnmet needs packages (TooOld place) =
+    AllInstalled needs packages × FailsFirstAt (λ need. IsMet need packages) needs place
+
+-- what is unmet is a dependency that isn't installed
+abbrev pub IsMissing : Unmet → Type 0
+IsMissing (Missing place) = Unit {0}
+IsMissing (TooOld place) = ⊥
+
+-- what is unmet is a dependency that is installed in too small a version
+abbrev pub IsTooOld : Unmet → Type 0
+IsTooOld (Missing place) = ⊥
+IsTooOld (TooOld place) = Unit {0}
 
 -- where an installed package isn't the one of this name, each of its needs that is met before is met afterwards
 abbrev pub KeepsNeeds : {I : Type 0} → PackageName → State I → State I → Entry I → Type 0
 KeepsNeeds name before after entry =
-    is_same name entry.name ≡ false → AllByRecursion (λ need. IsMet need before.packages → IsMet need after.packages) entry.needs
+    is_same name entry.name ≡ false
+    → AllByRecursion (λ need. IsMet need before.packages → IsMet need after.packages) entry.needs
 
 -- of no installed package that the one of this name doesn't replace a need is met before and not afterwards
 abbrev pub Unbroken : {I : Type 0} → PackageName → State I → State I → Type 0
@@ -46,4 +58,5 @@ pub record IsFirstBroken {I : Type 0} (name : PackageName) (before after : State
   pub needed : Contains entry.needs need
   pub met : IsMet need before.packages
   pub lost : IsMet need after.packages → ⊥
-  pub earlier : (i : ℕ) (other : Entry I) → i < place → slice_get before.packages i ≡ Some other → KeepsNeeds name before after other
+  pub earlier : (i : ℕ) (other : Entry I) → i < place → slice_get before.packages i ≡ Some other
+      → KeepsNeeds name before after other

@@ -2,18 +2,31 @@
 ghost use Rattle.std.specs.Prelude.{◌≡◌, ◌↔◌, ℕ, false, List, IsNone, IfSome, slice_get};
 ghost use Rattle.std.specs.Option.{option_map_or};
 ghost use Rattle.std.specs.List.{list_any};
-ghost use Rattle.config_table.specs.State.{Offer, with_package};
+ghost use Rattle.package_attrs.specs.Description.{description};
+ghost use Rattle.config_table.specs.State.{Offer, offer_of, with_package};
 ghost use Rattle.config_table.specs.Stored.{Stored, entry_of};
 ghost use Rattle.dependency_check.specs.Dependencies.{Unbroken, IsFirstBroken};
 ghost use Rattle.dependency_check.specs.Deciding.{is_lost, loses_need};
 
 use crate::needs::is_met;
 use config_table::{Installed, State, is_at_least, is_same};
-use package_attrs::PackageName;
+use package_attrs::{Package, PackageName};
 
-/// The place of the first installed package that a package of this name doesn't replace, and that
-/// has a need which is met in the state and not once that package is installed. Takes no memory.
-pub fn broken_by(state: &State, name: &PackageName) -> Option<usize>
+/// The place of the first installed package that this one doesn't replace, and that has a need
+/// which is met in the state and not once this one is installed. Takes no memory.
+pub fn broken_by(state: &State, offered: &Package) -> Option<usize>
+    ensures unbroken { let described = description offered.now in (digest : List ℕ) (image : Stored)
+        → IsNone result ↔ Unbroken described.identifier.name state.now
+        (with_package (offer_of described) digest image state.now) }
+    ensures first { let described = description offered.now in (digest : List ℕ) (image : Stored)
+        → IfSome result (IsFirstBroken described.identifier.name state.now
+        (with_package (offer_of described) digest image state.now)) }
+{
+    first_broken(state, &offered.identifier.name)
+}
+
+// The same for whatever package of this name is installed.
+fn first_broken(state: &State, name: &PackageName) -> Option<usize>
     ensures unbroken { (offer : Offer) (digest : List ℕ) (image : Stored) → offer.name ≡ name.now
         → IsNone result ↔ Unbroken name.now state.now (with_package offer digest image state.now) }
     ensures first { (offer : Offer) (digest : List ℕ) (image : Stored) → offer.name ≡ name.now
@@ -64,7 +77,7 @@ mod tests {
     use crate::{Unmet, unmet};
     use config_table::BlockNumbers;
     use der_core::{Octets64, read_oid};
-    use package_attrs::Names;
+    use package_attrs::{Identifier, Info, Names, Oids};
     use std::alloc::Global;
     use std::test::Fail;
 
@@ -108,12 +121,32 @@ mod tests {
         Ok(state)
     }
 
+    // A package of this name with these dependencies.
+    fn package(alloc: Global, name: PackageName, needs: &[PackageName]) -> Result<Package, Fail> {
+        let content = read_oid(&[0x2a]).ok_or("a bad identifier")?;
+        Ok(Package {
+            content,
+            digest: [0; 32],
+            identifier: Identifier { name, stale: None },
+            targets: Oids::new(Vec::new(alloc)),
+            communities: None,
+            info: Info {
+                kind: None,
+                dependencies: Names::new(needs.to_vec(alloc)?),
+            },
+        })
+    }
+
     #[test]
     fn tells_who_is_broken(rt: HostRuntime) -> Result<(), Fail> {
         let state = two_packages(rt.alloc())?;
-        assert_eq!(rt; broken_by(&state, &name(2, Some(3))?), Some(1));
-        assert_eq!(rt; broken_by(&state, &name(2, Some(5))?), None);
-        assert_eq!(rt; broken_by(&state, &name(9, None)?), None);
+        for (name, broken) in [
+            (name(2, Some(3))?, Some(1)),
+            (name(2, Some(5))?, None),
+            (name(9, None)?, None),
+        ] {
+            assert_eq!(rt; broken_by(&state, &package(rt.alloc(), name, &[])?), broken);
+        }
         Ok(())
     }
 
@@ -123,9 +156,14 @@ mod tests {
         let one = [name(2, Some(4))?];
         let two = [name(2, Some(4))?, name(3, Some(2))?];
         let three = [name(3, Some(2))?, name(2, Some(4))?, name(2, None)?];
-        assert_eq!(rt; unmet(&state, &one), None);
-        assert_eq!(rt; unmet(&state, &two), Some(Unmet::TooOld(1)));
-        assert_eq!(rt; unmet(&state, &three), Some(Unmet::Missing(2)));
+        for (needs, answer) in [
+            (one.as_slice(), None),
+            (two.as_slice(), Some(Unmet::TooOld(1))),
+            (three.as_slice(), Some(Unmet::Missing(2))),
+        ] {
+            let offered = package(rt.alloc(), name(8, None)?, needs)?;
+            assert_eq!(rt; unmet(&state, &offered), answer);
+        }
         Ok(())
     }
 }

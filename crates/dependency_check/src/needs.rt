@@ -1,15 +1,32 @@
 // Whether a package's dependencies are met.
-ghost use Rattle.std.specs.Prelude.{◌≡◌, ◌↔◌, not, position, IsNone, IfSome};
-ghost use Rattle.dependency_check.specs.Dependencies.{AllInstalled, AllMet, IsFirstUnmet};
+ghost use Rattle.std.specs.Prelude.{◌≡◌, ◌↔◌, not, position, IsNone, IfSome, IsSomeAnd};
+ghost use Rattle.package_attrs.specs.Description.{description};
+ghost use Rattle.dependency_check.specs.Dependencies.{AllInstalled, AllMet, IsFirstUnmet, IsMissing, IsTooOld};
 ghost use Rattle.dependency_check.specs.Deciding.{is_installed, is_met};
 
 use crate::Unmet;
 use config_table::{State, is_at_least};
-use package_attrs::PackageName;
+use package_attrs::{Package, PackageName};
 
-/// The first dependency that isn't installed in any version, and if there is none, the first that
-/// is installed in too small a version. Takes no memory.
-pub fn unmet(state: &State, needs: &[PackageName]) -> Option<Unmet>
+/// The first of the package's dependencies that isn't installed in any version, and if there is
+/// none, the first that is installed in too small a version. Takes no memory.
+pub fn unmet(state: &State, offered: &Package) -> Option<Unmet>
+    ensures met { let needs = (description offered.now).info.dependencies in IsNone result
+        ↔ (AllInstalled needs state.now.packages × AllMet needs state.now.packages) }
+    ensures first { IfSome result
+        (IsFirstUnmet (description offered.now).info.dependencies state.now.packages) }
+
+    // Which of the two rules fails.
+    ensures missing { let needs = (description offered.now).info.dependencies in
+        IsSomeAnd result IsMissing ↔ (¬ AllInstalled needs state.now.packages) }
+    ensures too_old { let needs = (description offered.now).info.dependencies in
+        IsSomeAnd result IsTooOld
+        ↔ (AllInstalled needs state.now.packages × (¬ AllMet needs state.now.packages)) }
+{
+    first_unmet(state, offered.info.dependencies.as_slice())
+}
+
+fn first_unmet(state: &State, needs: &[PackageName]) -> Option<Unmet>
     ensures met { IsNone result
         ↔ (AllInstalled needs.now state.now.packages × AllMet needs.now state.now.packages) }
     ensures first { IfSome result (IsFirstUnmet needs.now state.now.packages) }

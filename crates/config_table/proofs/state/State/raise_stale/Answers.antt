@@ -5,8 +5,11 @@ use Rattle.config_table.specs.Stored.{entry_of}
 use Rattle.config_table.proofs.KeyedLemmas.{Raises, raised_entries}
 use Rattle.config_table.proofs.state.State.raise_stale.Goals as goal
 
-raises : (c : goal.In_ok-insert) → Raises c.in-Some.made c.raised_entry-entry.result c.last.result c.self.inside.stale.entries
-raises c = raised_entries c.in-Some.made _ _ _ c.self.invariant.1 c.last.ensures.last _ c.get.ensures.value c.raised_entry-entry.ensures.raised
+raises : (c : goal.In_ok-insert)
+    → Raises c.in-Some.made c.raised_entry-entry.result c.last.result c.self.inside.stale.entries
+raises c =
+    raised_entries c.in-Some.made _ _ _ c.self.invariant.1 c.last.ensures.last _ c.get.ensures.value
+    c.raised_entry-entry.ensures.raised
 
 pub invariant_of-self-2 : goal.invariant_of-self-2
 invariant_of-self-2 c = (c.self.invariant.0, rw c.in_ok-insert.ensures.entries (raises c).keyed)

@@ -1,0 +1,4 @@
+pub mod RoomLemmas
+pub mod AnswerLemmas
+pub mod AlikeLemmas
+pub mod BlockLemmas

@@ -1,0 +1,5 @@
+pub mod Module
+pub mod Communities
+pub mod Rules
+pub mod Conditions
+pub mod Deciding
