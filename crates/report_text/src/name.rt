@@ -4,17 +4,16 @@ ghost use Rattle.hex.specs.Hex.{encode_lower};
 ghost use Rattle.report_text.specs.Names.{named, stale_value};
 
 use crate::oid::push_oid;
-use der_core::Octets64;
 use package_attrs::{PackageName, Stale};
 use std::alloc::{AllocError, Global};
 use std::fmt::Write;
 
 // Octets as lower case hex.
-fn push_hex(alloc: Global, line: &mut String, octets: &Octets64) -> Result<(), AllocError>
+pub(crate) fn push_hex(alloc: Global, line: &mut String, octets: &[u8]) -> Result<(), AllocError>
     ensures ok { OnOk result
         (string_bytes line.new ≡ string_bytes line.old ++ encode_lower octets.now) }
 {
-    let text = hex::encode(alloc, octets.octets())?;
+    let text = hex::encode(alloc, octets)?;
     line.push_str(&text)
 }
 
@@ -36,7 +35,7 @@ pub(crate) fn push_name(
         }
         PackageName::Legacy(octets) => {
             line.push_str("legacy ")?;
-            push_hex(alloc, line, octets)
+            push_hex(alloc, line, octets.octets())
         }
     }
 }
@@ -51,6 +50,6 @@ pub(crate) fn push_stale(alloc: Global, line: &mut String, stale: &Stale) -> Res
             let number = *number;
             write!(line, "{number}")
         }
-        Stale::Legacy(octets) => push_hex(alloc, line, octets),
+        Stale::Legacy(octets) => push_hex(alloc, line, octets.octets()),
     }
 }

@@ -1,0 +1,132 @@
+// The lines of a rehearsal, before those of the state that it ends in.
+ghost use Rattle.std.specs.Prelude.{◌≡◌, ◌++◌, ◌<◌, ◌^◌, string_bytes, OnOk, OnErr, IfOk};
+ghost use Rattle.der_core.specs.Time.{last_digits};
+ghost use Rattle.report_text.specs.Lines.{accepted_line, refused_line, rehearsal_head};
+
+use crate::name::push_name;
+use der_core::{Condition, Moment};
+use package_attrs::PackageName;
+use std::alloc::{AllocError, Global};
+use std::fmt::Write;
+
+// What a digit counts, for each of the fourteen of a moment.
+const PLACES: [u64; 14] = [
+    10_000_000_000_000,
+    1_000_000_000_000,
+    100_000_000_000,
+    10_000_000_000,
+    1_000_000_000,
+    100_000_000,
+    10_000_000,
+    1_000_000,
+    100_000,
+    10_000,
+    1_000,
+    100,
+    10,
+    1,
+];
+
+// The fourteen digits of a moment.
+fn push_moment(line: &mut String, at: Moment) -> Result<(), AllocError>
+    ensures ok { OnOk result
+        (string_bytes line.new ≡ string_bytes line.old ++ last_digits 14 at) }
+{
+    let digits = at.digits();
+    for place in PLACES {
+        let digit = digits / place % 10;
+        write!(line, "{digit}")?;
+    }
+    Ok(())
+}
+
+fn head_of(alloc: Global, at: Moment) -> Result<String, AllocError>
+    ensures line { IfOk result (λ line. string_bytes line ≡ rehearsal_head at) }
+{
+    let mut line = String::new(alloc);
+    line.push_str("rehearsal at ")?;
+    push_moment(&mut line, at)?;
+    line.push('\n')?;
+    Ok(line)
+}
+
+/// Appends the first line of a rehearsal, which tells its moment. For want of memory the list
+/// stays as it was.
+pub fn put_rehearsal_head(alloc: Global, out: &mut Vec<u8>, at: Moment) -> Result<(), AllocError>
+    ensures ok { OnOk result (out.new.items ≡ out.old.items ++ rehearsal_head at) }
+    ensures err { OnErr result (out.new.items ≡ out.old.items) }
+{
+    let line = head_of(alloc, at)?;
+    out.extend_from_slice(line.as_bytes())
+}
+
+fn accepted_of(alloc: Global, name: &PackageName) -> Result<String, AllocError>
+    ensures line { IfOk result (λ line. string_bytes line ≡ accepted_line name.now) }
+{
+    let mut line = String::new(alloc);
+    line.push_str("accepted ")?;
+    push_name(alloc, &mut line, name)?;
+    line.push('\n')?;
+    Ok(line)
+}
+
+/// Appends the line of a package that is accepted. For want of memory the list stays as it was.
+pub fn put_accepted(alloc: Global, out: &mut Vec<u8>, name: &PackageName) -> Result<(), AllocError>
+    ensures ok { OnOk result (out.new.items ≡ out.old.items ++ accepted_line name.now) }
+    ensures err { OnErr result (out.new.items ≡ out.old.items) }
+{
+    let line = accepted_of(alloc, name)?;
+    out.extend_from_slice(line.as_bytes())
+}
+
+fn refused_of(alloc: Global, condition: Condition) -> Result<String, AllocError>
+    ensures line { IfOk result (λ line. string_bytes line ≡ refused_line condition) }
+{
+    let number = condition.number();
+    let code = condition.code();
+    let mut line = String::new(alloc);
+    writeln!(line, "refused {number} {code}")?;
+    Ok(line)
+}
+
+/// Appends the line of a condition that fails: its number, and that of its code (RFC 4108,
+/// section 5). For want of memory the list stays as it was.
+pub fn put_refused(alloc: Global, out: &mut Vec<u8>, condition: Condition) -> Result<(), AllocError>
+    ensures ok { OnOk result (out.new.items ≡ out.old.items ++ refused_line condition) }
+    ensures err { OnErr result (out.new.items ≡ out.old.items) }
+{
+    let line = refused_of(alloc, condition)?;
+    out.extend_from_slice(line.as_bytes())
+}
+
+#[cfg(test)]
+mod tests {
+    use super::*;
+    use der_core::read_oid;
+    use std::test::Fail;
+
+    // The codes of RFC 4108, section 5: 1 decodeFailure, 7 badSignedAttrs, 27 wrongHardware,
+    // 28 stalePackage and 99 otherError.
+    const LINES: &[u8] = b"rehearsal at 20250101000000\nrehearsal at 00000131000009\n\
+        accepted preferred 1.2.3.1 7\n\
+        refused 1 1\nrefused 16 7\nrefused 30 27\nrefused 33 28\nrefused 41 99\n";
+
+    // Year 0000 has its four digits too.
+    #[test]
+    fn puts_the_lines_of_a_rehearsal(rt: HostRuntime) -> Result<(), Fail> {
+        let alloc = rt.alloc();
+        let mut out = Vec::new(alloc);
+        for digits in [20_250_101_000_000, 131_000_009] {
+            let at = Moment::new(digits).ok_or("a moment")?;
+            put_rehearsal_head(alloc, &mut out, at)?;
+        }
+        let id = read_oid(&[0x2a, 0x03, 0x01]).ok_or("1.2.3.1 is an identifier")?;
+        put_accepted(alloc, &mut out, &PackageName::Preferred { id, version: 7 })?;
+        for number in [1, 16, 30, 33, 41] {
+            let condition = Condition::new(number).ok_or("1 to 41")?;
+            put_refused(alloc, &mut out, condition)?;
+        }
+        assert!(rt; out.as_slice() == LINES, "{out:?}");
+        Ok(())
+    }
+}
