@@ -1,0 +1,6 @@
+mod ChainLemmas
+mod HoldsLemmas
+mod KeyLemmas
+mod PathLemmas
+mod TreeLemmas
+mod Writes

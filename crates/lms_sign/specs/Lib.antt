@@ -1,0 +1,5 @@
+pub mod PublicKeys
+pub mod Secrets
+pub mod Nodes
+pub mod Roots
+pub mod SignTexts
