@@ -1,0 +1,2 @@
+pub mod KeyRecord
+pub mod Reading

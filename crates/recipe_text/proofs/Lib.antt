@@ -1,0 +1,5 @@
+mod Cuts
+mod Entries
+mod KeyLines
+mod KeyRecipes
+mod Texts

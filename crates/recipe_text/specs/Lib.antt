@@ -1,0 +1,4 @@
+pub mod KeyRecipe
+pub mod Lines
+pub mod Passing
+pub mod Reading
