@@ -1,0 +1,5 @@
+mod Writing
+mod Images
+mod Reading
+mod Moments
+mod Holders

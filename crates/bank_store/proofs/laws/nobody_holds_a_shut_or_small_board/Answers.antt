@@ -1,0 +1,8 @@
+use Rattle.std.proofs.Common.{arith}
+use Rattle.bank_store.proofs.laws.nobody_holds_a_shut_or_small_board.Goals as goal
+
+pub returns-clause-shut : goal.returns-clause-shut
+returns-clause-shut c = λ image shut key holds. shut holds.gate
+
+pub returns-clause-small : goal.returns-clause-small
+returns-clause-small c = λ image small key holds. omega (arith, small, holds.size)

@@ -1,0 +1,74 @@
+// Why a board isn't opened or formatted.
+ghost use Rattle.std.specs.Prelude.{◌≡◌};
+
+use bank_gate::Fault;
+use edge_board::Failed;
+use std::alloc::AllocError;
+use thiserror::Error;
+
+/// Why no key was read.
+#[derive(Clone, Copy, Debug, PartialEq, Eq, Error)]
+pub enum KeyFault {
+    /// The board recovers to no key.
+    #[error("the board holds no key")]
+    NotAKey,
+    /// The board has failed. The module is to be restarted.
+    #[error("the board has failed")]
+    Fault,
+}
+
+impl From<Failed> for KeyFault {
+    ghost use Rattle.bank_store.specs.declared.fault.KeyFault.TheVariants.{Fault};
+
+    ghost from_gives = { λ _ fault. fault ≡ Fault };
+
+    fn from(_: Failed) -> Self {
+        KeyFault::Fault
+    }
+}
+
+/// Why a board wasn't formatted.
+#[derive(Clone, Copy, Debug, PartialEq, Eq, Error)]
+pub enum FormatFault {
+    /// The board recovers to a key already.
+    #[error("the board is held already")]
+    AlreadyHeld,
+    /// The board has too few blocks.
+    #[error("the board is too small")]
+    TooSmall,
+    /// The board has failed. The module is to be restarted.
+    #[error("the board has failed")]
+    Fault,
+    #[error("out of memory")]
+    Memory,
+}
+
+impl From<Failed> for FormatFault {
+    ghost use Rattle.bank_store.specs.declared.fault.FormatFault.TheVariants.{Fault};
+
+    ghost from_gives = { λ _ fault. fault ≡ Fault };
+
+    fn from(_: Failed) -> Self {
+        FormatFault::Fault
+    }
+}
+
+impl From<Fault> for FormatFault {
+    ghost use Rattle.bank_store.specs.declared.fault.FormatFault.TheVariants.{Fault};
+
+    ghost from_gives = { λ _ fault. fault ≡ Fault };
+
+    fn from(_: bank_gate::Fault) -> Self {
+        FormatFault::Fault
+    }
+}
+
+impl From<AllocError> for FormatFault {
+    ghost use Rattle.bank_store.specs.declared.fault.FormatFault.TheVariants.{Memory};
+
+    ghost from_gives = { λ _ fault. fault ≡ Memory };
+
+    fn from(_: AllocError) -> Self {
+        FormatFault::Memory
+    }
+}

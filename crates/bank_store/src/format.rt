@@ -1,0 +1,115 @@
+// Formatting a board for a key.
+ghost use Rattle.std.specs.Prelude.{◌≡◌, ◌≤◌, ◌<◌, ◌⊎◌, length, IfErr, IfOk, IsErrOf, OnOk};
+ghost use Rattle.edge_board.specs.Causes.{HasCause, Rose};
+ghost use Rattle.edge_board.specs.Board.{AllRead, InBlock, IsSettled, Nowhere};
+ghost use Rattle.edge_board.specs.Runs.{LeavesOnly, Touches};
+ghost use Rattle.bank_gate.specs.States.{IsOpened, IsSealed, RisesAtMost, Stands};
+ghost use Rattle.key_state.specs.KeyBlock.{row_start};
+ghost use Rattle.lms_sign.specs.PublicKeys.{IsSignKey};
+ghost use Rattle.module_record.specs.KeyRecord.{key_record_text};
+ghost use Rattle.bank_store.specs.Layout.{factory, record_start, InKeyBoard};
+ghost use Rattle.bank_store.specs.Recovery.{IsHeld};
+ghost use Rattle.bank_store.specs.Formats.{FormatMoment, RecoversToNewKey};
+ghost use Rattle.bank_store.specs.Writing.{WritesBody};
+
+use crate::FormatFault;
+use crate::layout::{FACTORY, KEY_BLOCK, KEY_BOARD_BLOCKS, RECORD};
+use crate::open::held_key;
+use bank_gate::{Fault, Idle, Sealed};
+use edge_board::Board;
+use lms_sign::SignKey;
+use module_record::put_key_record;
+use std::alloc::{AllocError, Global};
+
+/// Makes a board that nobody holds a key board: with Ok it recovers to this key, and no leaf of it
+/// is spent. It begins with a `sync`. Whatever it answers, at each moment since the board is held
+/// as it was, by nobody, or by this key with all its leaves.
+pub fn format_key<B: Board>(alloc: Global, board: &mut B, key: &SignKey) -> Result<(), FormatFault>
+    ensures formatted { B.tells_cells
+        → OnOk result (RecoversToNewKey (B.view board.new).cells key.now) }
+    ensures blocks { OnOk result (18 ≤ (B.view board.new).blocks) }
+    ensures settled { B.tells_cells → ¬ IsErrOf result FormatFault.Fault
+        → IsSettled (B.view board.new) }
+
+    // Each refusal but want of memory comes exactly where its cause holds, unless the board fails.
+    ensures already_held { B.tells_cells → IsErrOf result FormatFault.AlreadyHeld
+        → IsHeld (B.view board.old).cells }
+    ensures too_small { IsErrOf result FormatFault.TooSmall → (B.view board.old).blocks < 18 }
+    ensures held { B.tells_cells → IsHeld (B.view board.old).cells
+        → IsErrOf result FormatFault.AlreadyHeld ⊎ IsErrOf result FormatFault.Fault }
+    ensures small { (B.view board.old).blocks < 18
+        → IsErrOf result FormatFault.TooSmall ⊎ IsErrOf result FormatFault.Fault }
+
+    // A refusal comes before anything is written.
+    ensures refused { IfErr result (λ fault. ¬ (fault ≡ FormatFault.Fault)
+        → Touches B.tells_cells Nowhere (B.view board.old) (B.view board.new)) }
+
+    // What a power cut at any moment leaves, where nothing was pending.
+    ensures moments { B.tells_cells → IsSettled (B.view board.old)
+        → LeavesOnly (B.view board.old) (B.view board.new)
+        (FormatMoment key.now (B.view board.old)) }
+    ensures touches { Touches B.tells_cells InKeyBoard (B.view board.old) (B.view board.new) }
+    ensures erased { RisesAtMost 18 (B.view board.old).erased (B.view board.new).erased }
+    ensures later { (B.view board.old).faults ≤ (B.view board.new).faults }
+    ensures fault { IsErrOf result FormatFault.Fault
+        → Rose (B.view board.old).faults (B.view board.new).faults }
+{
+    if held_key(board)?.is_some() {
+        return Err(FormatFault::AlreadyHeld);
+    }
+    if board.blocks() < KEY_BOARD_BLOCKS {
+        return Err(FormatFault::TooSmall);
+    }
+    let record = key_record(alloc, *key)?;
+    let sealed = write_body(board, &record)?;
+    open_gate(board, sealed)?;
+    Ok(())
+}
+
+// The octets of a key's record.
+fn key_record(alloc: Global, key: SignKey) -> Result<Vec<u8>, AllocError>
+    ensures text { IfOk result (λ octets. octets.items ≡ key_record_text key) }
+    ensures valid { OnOk result (IsSignKey key) }
+{
+    let mut record = Vec::new(alloc);
+    put_key_record(alloc, &mut record, &key)?;
+    Ok(record)
+}
+
+// Closes the factory gate, and writes the record and a key block of FF behind it.
+fn write_body<B: Board>(board: &mut B, octets: &[u8]) -> Result<Sealed, Fault>
+    requires blocks { 18 ≤ (B.view board.old).blocks }
+    requires settled { B.tells_cells → IsSettled (B.view board.old) }
+    requires fits { length octets.now ≤ 65536 }
+    ensures place { IfOk result (λ sealed. sealed ≡ factory) }
+    ensures sealed { B.tells_cells → OnOk result (IsSealed factory (B.view board.new)) }
+    ensures record { B.tells_cells → OnOk result (Stands record_start octets.now
+        (B.view board.new).cells) }
+    ensures row { B.tells_cells → OnOk result (AllRead row_start 4096 255
+        (B.view board.new).cells) }
+    ensures writes { WritesBody B.tells_cells (B.view board.old) (B.view board.new) }
+    ensures erased { RisesAtMost 17 (B.view board.old).erased (B.view board.new).erased }
+    ensures cause { HasCause (B.view board.old).faults (B.view board.new).faults result }
+{
+    let closed = Idle::new(FACTORY).close(board)?;
+    let wiped = closed.wipe(board)?;
+    let put = wiped.put(board, RECORD, octets)?;
+    let erased = put.erase(board, KEY_BLOCK)?;
+    erased.seal(board)
+}
+
+// Opens the factory gate over a body that is sealed.
+fn open_gate<B: Board>(board: &mut B, sealed: Sealed) -> Result<(), Fault>
+    requires blocks { 18 ≤ (B.view board.old).blocks }
+    requires place { sealed ≡ factory }
+    requires sealed { B.tells_cells → IsSealed factory (B.view board.old) }
+    ensures opened { B.tells_cells → OnOk result (IsOpened factory (B.view board.new)) }
+    ensures touches { Touches B.tells_cells (InBlock 0) (B.view board.old) (B.view board.new) }
+    ensures erased { RisesAtMost 1 (B.view board.old).erased (B.view board.new).erased }
+    ensures cause { HasCause (B.view board.old).faults (B.view board.new).faults result }
+{
+    let armed = sealed.rearm(board)?;
+    let opened = armed.open(board)?;
+    opened.done();
+    Ok(())
+}

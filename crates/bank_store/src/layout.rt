@@ -1,0 +1,26 @@
+// Where the parts of a key board lie, in blocks of 4,096 octets.
+use bank_gate::Place;
+
+// how many blocks a key board has
+pub(crate) const KEY_BOARD_BLOCKS: u32 = 18;
+
+// the factory gate, the blocks of the factory record, and the key block
+pub(crate) const FACTORY: Place = Place {
+    gate: 0,
+    manifest: 1,
+    manifest_blocks: 16,
+    area: 17,
+    area_blocks: 1,
+};
+
+// the position of the gate: the first octet of block 0
+pub(crate) const GATE: u32 = 0;
+
+// the octet of an open gate
+pub(crate) const OPEN: u8 = 0x0f;
+
+// the position of the record: the first octet of block 1
+pub(crate) const RECORD: u32 = 4096;
+
+// the block of the row
+pub(crate) const KEY_BLOCK: u32 = 17;
