@@ -1,4 +1,10 @@
 pub mod WordsLemmas
+pub mod MomentLemmas
 pub mod ReplyLemmas
 pub mod AnswerLemmas
+pub mod KeyNewLemmas
+pub mod CommandLemmas
+pub mod VerdictLemmas
+pub mod RehearsalLemmas
+pub mod OneAnswer
 pub mod TripleLaws

@@ -1,11 +1,12 @@
 -- What stands on a board after an answer, and where nothing was sent.
-use Rattle.std.proofs.Common.{[], refl, sym, arith}
+use Rattle.std.proofs.Common.{ℕ, List, [], refl, sym, arith}
 use Rattle.std.proofs.lemmas.List.{append-nil}
-use Rattle.edge_board.specs.Board.{View, IsHonest}
+use Rattle.edge_board.specs.Board.{View, SameTest, IsHonest}
 use Rattle.edge_board.specs.Runs.{started, same_test}
 use Rattle.edge_board.specs.Sends.{SendsFront, settled_image}
 use Rattle.fwload_top.specs.declared.status.Status.{Status}
-use Rattle.fwload_top.specs.declared.status.Status.TheVariants.{Done, SomeRefused, Usage, NotAModule, DeviceFault, SourceFault, InputTooLong, NoMemory, Refused, KeySpent}
+use Rattle.fwload_top.specs.declared.status.Status.TheVariants.{Done, SomeRefused, Usage, NotAModule, DeviceFault}
+use Rattle.fwload_top.specs.declared.status.Status.TheVariants.{SourceFault, InputTooLong, NoMemory, Refused, KeySpent}
 use Rattle.fwload_top.specs.Status.{IsQuiet}
 use Rattle.fwload_top.specs.Reply.{KeepsFlash, Replies, SentAt}
 
@@ -39,3 +40,17 @@ nothing_sent status a honest quiet = record {
   moments = λ told. started a (SendsFront a []) honest
       (λ image s now. (now.0, (s, 0, now.1, omega arith, sym (append-nil s))));
 }
+
+-- with a status that carries no answer nothing was sent
+pub quiet_reply : (status : Status) (answer : List ℕ) (old new : View) → IsQuiet status → SentAt status answer old new
+    → SameTest old.sent new.sent
+quiet_reply Done answer old new quiet sent = absurd quiet
+quiet_reply SomeRefused answer old new quiet sent = absurd quiet
+quiet_reply Refused answer old new quiet sent = absurd quiet
+quiet_reply DeviceFault answer old new quiet sent = absurd quiet
+quiet_reply Usage answer old new quiet sent = sent.1
+quiet_reply NotAModule answer old new quiet sent = sent.1
+quiet_reply SourceFault answer old new quiet sent = sent.1
+quiet_reply InputTooLong answer old new quiet sent = sent.1
+quiet_reply NoMemory answer old new quiet sent = sent.1
+quiet_reply KeySpent answer old new quiet sent = sent.1

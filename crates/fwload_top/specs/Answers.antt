@@ -1,9 +1,10 @@
 -- What a run leaves whose command reads its input to the end and answers it as a whole.
-use Rattle.std.specs.Prelude.{◌≡◌, ◌<◌, ◌≤◌, ℕ, List, length, Option, IfSome}
+use Rattle.std.specs.Prelude.{◌<◌, ◌≤◌, ℕ, List, length, Option, IfSome}
 use Rattle.std.specs.Io.KnownBytes.{IsAtEnd}
 use Rattle.edge_board.specs.Board.{View}
 use Rattle.fwload_top.specs.declared.status.Status.{Status}
-use Rattle.fwload_top.specs.declared.status.Status.TheVariants.{Done, SomeRefused, Usage, NotAModule, DeviceFault, SourceFault, InputTooLong, NoMemory, Refused, KeySpent}
+use Rattle.fwload_top.specs.declared.status.Status.TheVariants.{Done, SomeRefused, Usage, NotAModule, DeviceFault}
+use Rattle.fwload_top.specs.declared.status.Status.TheVariants.{SourceFault, InputTooLong, NoMemory, Refused, KeySpent}
 use Rattle.fwload_top.specs.Status.{IsAnswered}
 use Rattle.fwload_top.specs.Reply.{Replies}
 

@@ -4,7 +4,8 @@ use Rattle.edge_board.specs.Board.{View}
 use Rattle.package_attrs.specs.Identifier.{Named, identifier_text, IsIdentifier}
 use Rattle.report_text.specs.Names.{identifier_line}
 use Rattle.fwload_top.specs.declared.status.Status.{Status}
-use Rattle.fwload_top.specs.declared.status.Status.TheVariants.{Done, SomeRefused, Usage, NotAModule, DeviceFault, SourceFault, InputTooLong, NoMemory, Refused, KeySpent}
+use Rattle.fwload_top.specs.declared.status.Status.TheVariants.{Done, SomeRefused, Usage, NotAModule, DeviceFault}
+use Rattle.fwload_top.specs.declared.status.Status.TheVariants.{SourceFault, InputTooLong, NoMemory, Refused, KeySpent}
 use Rattle.fwload_top.specs.declared.words.Command.TheVariants as commands
 use Rattle.fwload_top.specs.Words.{limit_of}
 use Rattle.fwload_top.specs.Answers.{Runs}

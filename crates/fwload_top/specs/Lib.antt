@@ -5,4 +5,10 @@ pub mod Reply
 pub mod Answers
 pub mod Ident
 pub mod Sigcheck
+pub mod Verdicts
+pub mod Rehearse
+pub mod KeyNew
+pub mod Commands
+pub mod VerdictView
+pub mod Rehearsal
 pub mod TripleReading

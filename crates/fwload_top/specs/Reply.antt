@@ -4,7 +4,8 @@ use Rattle.edge_board.specs.Board.{View, SameTest, Unchanged, Sent, IsSettled, L
 use Rattle.edge_board.specs.Runs.{LeavesOnly}
 use Rattle.edge_board.specs.Sends.{SendsFront}
 use Rattle.fwload_top.specs.declared.status.Status.{Status}
-use Rattle.fwload_top.specs.declared.status.Status.TheVariants.{Done, SomeRefused, Usage, NotAModule, DeviceFault, SourceFault, InputTooLong, NoMemory, Refused, KeySpent}
+use Rattle.fwload_top.specs.declared.status.Status.TheVariants.{Done, SomeRefused, Usage, NotAModule, DeviceFault}
+use Rattle.fwload_top.specs.declared.status.Status.TheVariants.{SourceFault, InputTooLong, NoMemory, Refused, KeySpent}
 
 -- The flash stands as before the run, and a crash at any moment of it leaves what a crash before
 -- it would have left: where nothing was pending then, the start alone.

@@ -7,7 +7,8 @@ use Rattle.hss_chain.specs.declared.key.HssKey.{HssKey}
 use Rattle.hss_chain.specs.Keys.{IsHssKey, hss_key_text}
 use Rattle.hss_chain.specs.Chains.{HssHolds}
 use Rattle.fwload_top.specs.declared.status.Status.{Status}
-use Rattle.fwload_top.specs.declared.status.Status.TheVariants.{Done, SomeRefused, Usage, NotAModule, DeviceFault, SourceFault, InputTooLong, NoMemory, Refused, KeySpent}
+use Rattle.fwload_top.specs.declared.status.Status.TheVariants.{Done, SomeRefused, Usage, NotAModule, DeviceFault}
+use Rattle.fwload_top.specs.declared.status.Status.TheVariants.{SourceFault, InputTooLong, NoMemory, Refused, KeySpent}
 use Rattle.fwload_top.specs.declared.words.Command.TheVariants as commands
 use Rattle.fwload_top.specs.Words.{limit_of}
 use Rattle.fwload_top.specs.Answers.{Runs}

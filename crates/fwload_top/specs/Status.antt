@@ -1,6 +1,7 @@
 -- What a status says of a run, whatever its command; this project's own.
 use Rattle.fwload_top.specs.declared.status.Status.{Status}
-use Rattle.fwload_top.specs.declared.status.Status.TheVariants.{Done, SomeRefused, Usage, NotAModule, DeviceFault, SourceFault, InputTooLong, NoMemory, Refused, KeySpent}
+use Rattle.fwload_top.specs.declared.status.Status.TheVariants.{Done, SomeRefused, Usage, NotAModule, DeviceFault}
+use Rattle.fwload_top.specs.declared.status.Status.TheVariants.{SourceFault, InputTooLong, NoMemory, Refused, KeySpent}
 
 -- the run answered
 abbrev pub IsAnswered : Status → Type 0

@@ -1,6 +1,5 @@
 -- Reading a key, a message and a signature, by the shapes of `der_core`. That this is the triple
 -- whose text the octets are is proved in the contract of `read_triple`.
-use Rattle.std.specs.Prelude.{ℕ, List, Option}
 use Rattle.der_core.specs.Shapes.{Whole, element, alone, before, mapped, anything}
 use Rattle.fwload_top.specs.declared.triple.Triple.{Triple as Slices}
 use Rattle.fwload_top.specs.Sigcheck.{Triple}

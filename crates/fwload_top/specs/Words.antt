@@ -2,17 +2,32 @@
 use Rattle.std.specs.Prelude.{◌≡◌, ℕ, ◌^◌, List, [], ◌∷◌, map, string_bytes, codes}
 use Rattle.std.specs.Global.{Global}
 use Rattle.std.specs.declared.string.String.{String}
+use Rattle.der_core.specs.Moment.{IsMoment}
+use Rattle.der_core.specs.Time.{last_digits}
 use Rattle.fwload_top.specs.declared.words.Command.{Command}
 use Rattle.fwload_top.specs.declared.words.Command.TheVariants as commands
 
--- the words of a command, after the flash file's name
+-- the words of a command, after the flash file's name; a moment is its fourteen digits
 abbrev pub words_of : Command → List (List ℕ)
 words_of commands.Ident = codes "ident" ∷ []
 words_of commands.Sigcheck = codes "sigcheck" ∷ []
+words_of commands.KeyNew = codes "key-new" ∷ []
+words_of (commands.Rehearse at) = codes "rehearse" ∷ last_digits 14 at ∷ []
+
+-- what the command speaks of is in its range
+abbrev pub IsCommand : Command → Type 0
+IsCommand commands.Ident = Unit {0}
+IsCommand commands.Sigcheck = Unit {0}
+IsCommand commands.KeyNew = Unit {0}
+IsCommand (commands.Rehearse at) = IsMoment at
+
+-- these words behind the flash file's name are the command's
+abbrev pub Names : List (List ℕ) → Command → Type 0
+Names words c = IsCommand c × (words ≡ words_of c)
 
 -- the words are the flash file's name, which may be anything, and then the command's
 abbrev pub Spells : List (List ℕ) → Command → Type 0
-Spells words c = (file : List ℕ) × (words ≡ file ∷ words_of c)
+Spells words c = (file : List ℕ) × IsCommand c × (words ≡ file ∷ words_of c)
 
 -- the words ask for the command
 abbrev pub Asks : List (String Global) → Command → Type 0
@@ -22,8 +37,12 @@ Asks words c = Spells (map string_bytes words) c
 abbrev pub limit_of : Command → ℕ
 limit_of commands.Ident = 2 ^ 26
 limit_of commands.Sigcheck = 2 ^ 26
+limit_of commands.KeyNew = 2 ^ 26
+limit_of (commands.Rehearse at) = 2 ^ 26
 
 -- the command writes no flash
 abbrev pub WritesNoFlash : Command → Type 0
 WritesNoFlash commands.Ident = Unit {0}
 WritesNoFlash commands.Sigcheck = Unit {0}
+WritesNoFlash commands.KeyNew = ⊥
+WritesNoFlash (commands.Rehearse at) = Unit {0}

@@ -1,5 +1,5 @@
 // From the words to the command, and to the status.
-ghost use Rattle.std.specs.Prelude.{◌≡◌, ◌↔◌, ◌+◌, ◌-◌, ◌<◌, ◌≤◌, ◌^◌, length, IsSomeAnd};
+ghost use Rattle.std.specs.Prelude.{◌≡◌, ◌↔◌, ℕ, ◌+◌, ◌-◌, ◌<◌, ◌≤◌, ◌^◌, length, IsSomeAnd};
 ghost use Rattle.edge_board.specs.Board.{SameTest};
 ghost use Rattle.edge_board.specs.Causes.{Rose};
 ghost use Rattle.fwload_top.specs.Words.{Asks, limit_of, WritesNoFlash};
@@ -7,8 +7,13 @@ ghost use Rattle.fwload_top.specs.Status.{IsQuiet, IsComplete};
 ghost use Rattle.fwload_top.specs.Reply.{KeepsFlash};
 ghost use Rattle.fwload_top.specs.Ident.{IdentRuns};
 ghost use Rattle.fwload_top.specs.Sigcheck.{SigcheckRuns};
+ghost use Rattle.fwload_top.specs.Rehearse.{RehearseRuns};
+ghost use Rattle.fwload_top.specs.KeyNew.{KeyNewRuns};
+ghost use Rattle.fwload_top.specs.Commands.{CommandRuns};
 
 use crate::ident::ident;
+use crate::key_new::key_new;
+use crate::rehearse::rehearse;
 use crate::sigcheck::sigcheck;
 use crate::words::command_of;
 use crate::{Command, Status};
@@ -53,6 +58,12 @@ pub fn run<S: Source, B: Board>(
         (S.left source.old) (S.left source.new) (B.view board.old) (B.view board.new) }
     ensures sigcheck { Asks words.now Command.Sigcheck → SigcheckRuns B.tells_moments result
         (S.left source.old) (S.left source.new) (B.view board.old) (B.view board.new) }
+    ensures rehearse { (at : ℕ) → Asks words.now (Command.Rehearse at)
+        → RehearseRuns at B.tells_moments result
+        (S.left source.old) (S.left source.new) (B.view board.old) (B.view board.new) }
+    ensures key_new { Asks words.now Command.KeyNew
+        → KeyNewRuns B.tells_cells B.tells_moments result
+        (S.left source.old) (S.left source.new) (B.view board.old) (B.view board.new) }
 
     // Within the limit and without a fault the command comes to its end, or memory was wanting.
     ensures complete { (c : Command) → Asks words.now c
@@ -62,7 +73,34 @@ pub fn run<S: Source, B: Board>(
 {
     match command_of(words) {
         None => Status::Usage,
-        Some(Command::Ident) => ident(alloc, source, board),
-        Some(Command::Sigcheck) => sigcheck(alloc, source, board),
+        Some(command) => obey(alloc, command, source, board),
+    }
+}
+
+// Does what a command asks for.
+fn obey<S: Source, B: Board>(
+    alloc: Global,
+    command: Command,
+    source: &mut S,
+    board: &mut B,
+) -> Status
+    ensures runs { CommandRuns command B.tells_cells B.tells_moments result (S.left source.old)
+        (S.left source.new) (B.view board.old) (B.view board.new) }
+    ensures flash { WritesNoFlash command
+        → KeepsFlash B.tells_cells B.tells_moments (B.view board.old) (B.view board.new) }
+    ensures too_long { S.taken source.new < 2 ^ 64 - 1 → (result ≡ Status.InputTooLong)
+        ↔ (S.taken source.old + limit_of command < S.taken source.new) }
+    ensures source_fault { result ≡ Status.SourceFault
+        → Rose (S.faults source.old) (S.faults source.new) }
+    ensures device_fault { result ≡ Status.DeviceFault
+        → Rose (B.view board.old).faults (B.view board.new).faults }
+    ensures source_count { S.faults source.old ≤ S.faults source.new }
+    ensures device_count { (B.view board.old).faults ≤ (B.view board.new).faults }
+{
+    match command {
+        Command::Ident => ident(alloc, source, board),
+        Command::Sigcheck => sigcheck(alloc, source, board),
+        Command::Rehearse(at) => rehearse(alloc, at, source, board),
+        Command::KeyNew => key_new(alloc, source, board),
     }
 }

@@ -62,7 +62,8 @@ pub(crate) fn read_input<S: Source>(
     source: &mut S,
     limit: usize,
 ) -> Result<Vec<u8>, InputFault>
-    ensures all { IfOk result (λ v. ReadsAll (S.left source.old) (S.left source.new) limit v.items) }
+    ensures all { IfOk result (λ v.
+        ReadsAll (S.left source.old) (S.left source.new) limit v.items) }
     ensures too_long { S.taken source.new < 2 ^ 64 - 1
         → (result ≡ Err InputFault.TooLong) ↔ (S.taken source.old + limit < S.taken source.new) }
     ensures long { result ≡ Err InputFault.TooLong
@@ -99,7 +100,8 @@ fn fill<S: Source>(
     piece: &mut [u8],
 ) -> Result<(Vec<u8>, bool), InputFault>
     requires { 0 < length piece.old }
-    ensures taken { IfOk result (λ x. Fills (S.left source.old) (S.left source.new) limit x.0.items x.1) }
+    ensures taken { IfOk result (λ x.
+        Fills (S.left source.old) (S.left source.new) limit x.0.items x.1) }
     ensures counted { IfOk result (λ x. S.taken source.new < 2 ^ 64 - 1
         → S.taken source.new ≡ S.taken source.old + vec_len x.0) }
     ensures most { S.taken source.new < 2 ^ 64 - 1

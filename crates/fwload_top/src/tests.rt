@@ -21,12 +21,16 @@ fn words_of(alloc: Global, words: &[&str]) -> Result<Vec<String>, AllocError> {
 }
 
 // A board of one block, whose calls with the listed numbers fail, with room for so many octets.
-fn board_of(alloc: Global, failing: &[u64], room: usize) -> Result<MemBoard, AllocError> {
+pub(crate) fn board_of(
+    alloc: Global,
+    failing: &[u64],
+    room: usize,
+) -> Result<MemBoard, AllocError> {
     MemBoard::new(alloc, 1, failing.to_vec(alloc)?, 100, room)
 }
 
 // Runs the words over a source and a board, and compares the status and what was sent.
-fn ends(
+pub(crate) fn ends(
     rt: &impl Abort,
     alloc: Global,
     words: &[&str],
@@ -96,11 +100,18 @@ fn ident_prints_an_identifier(rt: HostRuntime) -> Result<(), Fail> {
 // Words that are no command.
 #[test]
 fn other_words_are_usage(rt: HostRuntime) -> Result<(), Fail> {
-    let rows: [&[&str]; 4] = [
+    let rows: [&[&str]; 11] = [
         &[],
         &["f"],
         &["f", "ident", "now"],
         &["f", "loads", "20250101000000"],
+        &["f", "rehearse"],
+        &["f", "rehearse", "20250101000000", "now"],
+        &["f", "rehearse", "20251301000000"],
+        &["f", "rehearse", "20250101240000"],
+        &["f", "rehearse", "2025010100000"],
+        &["f", "rehearse", "+2025010100000"],
+        &["f", "rehearse", "20250101000000Z"],
     ];
     for words in rows {
         let source = MemSource::new(PREFERRED.to_vec(rt.alloc())?, Vec::new(rt.alloc()));

@@ -1,6 +1,11 @@
 // The words that a run is asked by.
 ghost use Rattle.std.specs.Prelude.{◌≡◌, ◌↔◌, ◌∷◌, [], Some};
-ghost use Rattle.fwload_top.specs.Words.{Asks, words_of, limit_of};
+ghost use Rattle.der_core.specs.Moment.{IsMoment};
+ghost use Rattle.der_core.specs.Reads.{Reads};
+ghost use Rattle.der_core.specs.Time.{last_digits};
+ghost use Rattle.fwload_top.specs.Words.{Asks, Names, limit_of};
+
+use der_core::{Moment, read_time, tags};
 
 /// What the words ask for.
 #[derive(Clone, Copy, Debug, PartialEq, Eq)]
@@ -9,6 +14,11 @@ pub enum Command {
     Ident,
     /// Say whether a signature of a message holds under an HSS key.
     Sigcheck,
+    /// Judge the attribute sets of the input as a module would that has nothing installed at first.
+    /// The moment is printed, and means nothing else.
+    Rehearse(Moment),
+    /// Make a key board of a board that nobody holds, by the key recipe that the input is.
+    KeyNew,
 }
 
 impl Command {
@@ -17,7 +27,7 @@ impl Command {
         ensures { result ≡ limit_of self }
     {
         match self {
-            Command::Ident | Command::Sigcheck => 1 << 26,
+            Command::Ident | Command::Sigcheck | Command::Rehearse(_) | Command::KeyNew => 1 << 26,
         }
     }
 }
@@ -28,19 +38,46 @@ pub(crate) fn command_of(words: &[String]) -> Option<Command>
 {
     match words {
         [_, word] => without_argument(word),
+        [_, word, argument] => with_moment(word, argument),
         _ => None,
     }
 }
 
 // The command that is one word.
 fn without_argument(word: &str) -> Option<Command>
-    ensures { (c : Command) → (result ≡ Some c) ↔ (word.now ∷ [] ≡ words_of c) }
+    ensures { (c : Command) → (result ≡ Some c) ↔ Names (word.now ∷ []) c }
 {
     if word == "ident" {
         Some(Command::Ident)
     } else if word == "sigcheck" {
         Some(Command::Sigcheck)
+    } else if word == "key-new" {
+        Some(Command::KeyNew)
     } else {
         None
     }
+}
+
+// The command that is one word with a moment.
+fn with_moment(word: &str, digits: &str) -> Option<Command>
+    ensures { (c : Command) → (result ≡ Some c) ↔ Names (word.now ∷ digits.now ∷ []) c }
+{
+    if word != "rehearse" {
+        return None;
+    }
+    let at = moment_of(digits.as_bytes())?;
+    Some(Command::Rehearse(at))
+}
+
+// The moment that fourteen digits are: a GeneralizedTime without its Z (RFC 5280, section
+// 4.1.2.5.2).
+fn moment_of(digits: &[u8]) -> Option<Moment>
+    ensures { Reads (last_digits 14) IsMoment digits.now result }
+{
+    if digits.len() != 14 {
+        return None;
+    }
+    let mut time = [b'Z'; 15];
+    time[..14].copy_from_slice(digits);
+    read_time(tags::GENERALIZED_TIME, &time)
 }

@@ -1,0 +1,58 @@
+-- A moment in a word: a GeneralizedTime without its Z.
+use Rattle.std.proofs.Common.{◌≡◌, ℕ, List, [], ◌∷◌, ◌++◌, Option, Some, option_map, codes, refl, sym, ap, ◌∙◌}
+use Rattle.std.proofs.Common.{subst}
+use Rattle.std.proofs.lemmas.List.{append_cancel_right}
+use Rattle.der_core.specs.Moment.{IsMoment}
+use Rattle.der_core.specs.Reads.{Reads}
+use Rattle.der_core.specs.Time.{last_digits, generalized_text}
+use Rattle.fwload_top.specs.declared.words.Command.{Command}
+use Rattle.fwload_top.specs.declared.words.Command.TheVariants as commands
+use Rattle.fwload_top.specs.Words.{Names}
+use Rattle.fwload_top.proofs.WordsLemmas.{IsNamed}
+
+-- the digits are a moment's exactly where they and a Z are its GeneralizedTime
+pub without_z : (digits time : List ℕ) (result : Option ℕ) → time ≡ digits ++ codes "Z"
+    → Reads generalized_text IsMoment time result
+    → Reads (last_digits 14) IsMoment digits result
+unfolding generalized_text
+without_z digits time result is reads v = (
+  (λ e. let read = (reads v).0 e in
+      (read.0, append_cancel_right digits (last_digits 14 v) (codes "Z") (sym is ∙ read.1))),
+  λ named. (reads v).1 (named.0, is ∙ ap (λ (ds : List ℕ). ds ++ codes "Z") named.1),
+)
+
+second : {a b d e : List ℕ} → a ∷ (b ∷ []) ≡ d ∷ (e ∷ []) → b ≡ e
+second same = cc
+
+some_same : {a b : Command} → ◌≡◌ {A = Option Command} (Some a) (Some b) → a ≡ b
+some_same same = cc
+
+one_or_two : {a b d : List ℕ} → a ∷ (b ∷ []) ≡ d ∷ [] → ⊥
+one_or_two same = cc
+
+-- a word with digits that are no moment is no command
+pub no_moment : (word digits : List ℕ) → ((at : ℕ) → IsMoment at → digits ≡ last_digits 14 at → ⊥) → (c : Command)
+    → Names (word ∷ (digits ∷ [])) c → ⊥
+no_moment word digits none commands.Ident named = one_or_two named.1
+no_moment word digits none commands.Sigcheck named = one_or_two named.1
+no_moment word digits none commands.KeyNew named = one_or_two named.1
+no_moment word digits none (commands.Rehearse at) named = none at named.0 (second named.1)
+
+-- the word `rehearse` with a moment's digits is the command of that moment alone
+pub one_moment : (word digits : List ℕ) (at : ℕ) → word ≡ codes "rehearse"
+    → Reads (last_digits 14) IsMoment digits (Some at)
+    → IsNamed (Some (commands.Rehearse at)) (word ∷ (digits ∷ []))
+one_moment word digits at is reads c = ((λ e. subst (Names (word ∷ (digits ∷ []))) (some_same e) forth), back c)
+  where
+    forth : Names (word ∷ (digits ∷ [])) (commands.Rehearse at)
+    forth =
+        let read = (reads at).0 refl in
+        (read.0, ap (λ (w : List ℕ). w ∷ (digits ∷ [])) is ∙ ap (λ (ds : List ℕ). codes "rehearse" ∷ (ds ∷ [])) read.1)
+
+    back : (c : Command) → Names (word ∷ (digits ∷ [])) c
+        → ◌≡◌ {A = Option Command} (Some (commands.Rehearse at)) (Some c)
+    back commands.Ident named = absurd (one_or_two named.1)
+    back commands.Sigcheck named = absurd (one_or_two named.1)
+    back commands.KeyNew named = absurd (one_or_two named.1)
+    back (commands.Rehearse other) named =
+        ap (option_map (λ (t : ℕ). commands.Rehearse t)) ((reads other).1 (named.0, second named.1))

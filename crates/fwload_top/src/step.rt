@@ -1,0 +1,66 @@
+// The step of a rehearsal: the verdict on one attribute set, and what it leaves installed.
+ghost use Rattle.std.specs.Prelude.{◌≡◌, ◌++◌, IfOk};
+ghost use Rattle.der_core.specs.Condition.{IsCondition};
+ghost use Rattle.package_attrs.specs.Description.{description};
+ghost use Rattle.fwload_top.specs.Verdicts.{Judges, after, accepted};
+ghost use Rattle.fwload_top.specs.VerdictView.{verdict_view};
+
+use attribute_set::read_attribute_set;
+use config_table::{BlockNumbers, State};
+use der_core::Condition;
+use package_attrs::{Package, read_package};
+use package_rules::{HardwareModule, first_overflow, first_refusal};
+use sha2::{Digest, Sha256};
+use std::alloc::{AllocError, Global};
+
+// What is said of a set.
+#[derive(Drop)]
+pub(crate) enum Verdict {
+    // The package that its attributes are those of enters.
+    Accepted(Package),
+    // The least condition that fails.
+    Refused(Condition),
+}
+
+// The condition of a number that is one.
+pub(crate) fn condition(number: u8) -> Condition
+    requires { IsCondition number }
+    ensures { result ≡ number }
+{
+    match Condition::new(number) {
+        Some(condition) => condition,
+        None => unreachable!(),
+    }
+}
+
+// The verdict on a set, by its contents.
+pub(crate) fn judge(
+    alloc: Global,
+    hardware: &HardwareModule<'_>,
+    state: &State,
+    contents: &[u8],
+) -> Result<Verdict, AllocError>
+    ensures { IfOk result (λ v. Judges hardware.now state.now contents.now (verdict_view v)) }
+{
+    let Some(attributes) = read_attribute_set(alloc, contents)? else {
+        return Ok(Verdict::Refused(condition(16)));
+    };
+    let Some(package) = read_package(alloc, &attributes)? else {
+        return Ok(Verdict::Refused(condition(19)));
+    };
+    if let Some(failing) = first_refusal(hardware, state, &package) {
+        return Ok(Verdict::Refused(failing));
+    }
+    match first_overflow(state, &package) {
+        Some(failing) => Ok(Verdict::Refused(failing)),
+        None => Ok(Verdict::Accepted(package)),
+    }
+}
+
+// The state with an accepted package, whose image is no octets.
+pub(crate) fn enter(alloc: Global, state: State, offered: &Package) -> Result<State, AllocError>
+    ensures { IfOk result (λ new. new ≡ after state (accepted (description offered.now))) }
+{
+    let digest = Sha256::new().finalize();
+    state.with_package(offered, digest, 0, BlockNumbers::new(Vec::new(alloc)))
+}
