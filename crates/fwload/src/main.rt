@@ -1,11 +1,16 @@
 //! The program: `fwload FLASHFILE COMMAND ..` runs a command over standard input, a flash in a
 //! file and standard output, and ends with the status of the run.
 //!
-//! No clause speaks of it; what `run` promises is said in `fwload_top`. It prints nothing itself.
+//! The number of each status is proved (`exit`: `number`). What `run` promises is said in
+//! `fwload_top`, and no clause speaks of what `main` hands it. It prints nothing itself.
 //! Where the system doesn't give the words as text, it ends with the status of wrong words, and
 //! where memory for them is wanting, with that of no memory. Without words the flash file has the
 //! empty name.
 #![tactic(auto)]
+
+ghost use Rattle.std.specs.Prelude.{◌≡◌};
+ghost use Rattle.std.specs.Process.{exit_status};
+ghost use Rattle.fwload.specs.Exit.{exit_number};
 
 use edge_board::{FileBoard, StdSource};
 use fwload_top::{Status, run};
@@ -14,7 +19,9 @@ use std::io::ErrorKind;
 use std::process::ExitCode;
 
 // The status as the number that the program ends with.
-fn exit(status: Status) -> ExitCode {
+fn exit(status: Status) -> ExitCode
+    ensures number { exit_status result ≡ exit_number status }
+{
     ExitCode::from(status as u8)
 }
 
