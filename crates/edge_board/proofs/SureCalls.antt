@@ -3,7 +3,7 @@ use Rattle.std.proofs.Common.{◌≡◌, inr, ⊎_elim, ℕ, ◌+◌, ◌*◌, �
 use Rattle.std.proofs.lemmas.List.{take_all}
 use Rattle.edge_board.specs.Board.{View, Within, Keeps, Effect, Elapses, Marks, cell}
 use Rattle.edge_board.specs.Calls.{ReadsAt, ErasesBlock, ProgramsAt, BlanksAt, Syncs, SendsSome}
-use Rattle.edge_board.specs.Events.{State, begun, filled, fills, written, length-filled}
+use Rattle.edge_board.specs.Events.{BoardState, begun, filled, fills, written, length-filled}
 use Rattle.edge_board.specs.SureBoard.{sure_view}
 use Rattle.edge_board.specs.SureViews.{cells_view}
 use Rattle.edge_board.specs.declared.sure_board.SureBoard.{SureBoard}
@@ -21,7 +21,7 @@ keeps_written : (at : ℕ) (bytes cells : List ℕ)
     → Keeps (Within at (length bytes)) cells (written at bytes cells)
 keeps_written at bytes cells =
     let inside = all_fills at (length bytes) at bytes (omega arith) (omega arith) in
-    subst (λ (st : State). Keeps (Within at (length bytes)) cells st.cells)
+    subst (λ (st : BoardState). Keeps (Within at (length bytes)) cells st.cells)
     (run_fills (begun cells) at bytes)
     (filling at (length bytes) (begun cells) (fills at bytes) inside).cells
 
@@ -100,7 +100,7 @@ module _ (b : SureBoard) where
     };
     same = λ told. record { cells = refl; forth = λ i p. p; back = λ i p. p };
     erased = refl;
-    cause = record { later = omega arith; failed = tt };
+    cause = record { later = omega arith; calm = refl; failed = tt };
   }
 
   -- an erase
@@ -120,7 +120,7 @@ module _ (b : SureBoard) where
         at_least = omega arith;
         at_most = omega arith;
         erased = λ told. absurd told;
-        cause = record { later = omega arith; failed = tt };
+        cause = record { later = omega arith; calm = refl; failed = tt };
       }
 
   -- a blank
@@ -138,7 +138,7 @@ module _ (b : SureBoard) where
         ok = λ told. sure_marks at 1 cells pending pending_is fits;
         failed = λ told. tt;
         erased = refl;
-        cause = record { later = omega arith; failed = tt };
+        cause = record { later = omega arith; calm = refl; failed = tt };
       }
 
   -- a program
@@ -160,7 +160,7 @@ module _ (b : SureBoard) where
     ok = λ told. sure_marks at (length bytes) cells pending pending_is fits;
     failed = λ told. tt;
     erased = refl;
-    cause = record { later = omega arith; failed = tt };
+    cause = record { later = omega arith; calm = refl; failed = tt };
   }
 
   -- a sync
@@ -183,7 +183,7 @@ module _ (b : SureBoard) where
         settled = λ told. none;
         failed = λ told. tt;
         erased = refl;
-        cause = record { later = omega arith; failed = tt };
+        cause = record { later = omega arith; calm = refl; failed = tt };
       }
 
   -- a send of all octets
@@ -207,5 +207,5 @@ module _ (b : SureBoard) where
         failed = tt;
         same = λ told. record { cells = refl; forth = λ i p. p; back = λ i p. p };
         erased = refl;
-        cause = record { later = omega arith; failed = tt };
+        cause = record { later = omega arith; calm = refl; failed = tt };
       }

@@ -3,11 +3,11 @@ use Rattle.std.specs.Prelude.{◌≡◌, ℕ, zero, suc, ◌+◌, ◌*◌, ◌�
 use Rattle.std.proofs.Common.{refl, sym, ◌∙◌, ap, subst, arith, get_or}
 use Rattle.std.proofs.lemmas.List.{take_all}
 use Rattle.edge_board.specs.Board.{View, Keeps, IsHonest}
-use Rattle.edge_board.specs.declared.event.Event.{Event}
-use Rattle.edge_board.specs.declared.event.Event.TheVariants.{Mark, Fill, Sync, Sent}
+use Rattle.edge_board.specs.declared.event.BoardEvent.{BoardEvent}
+use Rattle.edge_board.specs.declared.event.BoardEvent.TheVariants.{Mark, Fill, Sync, Sent}
 
 -- What a board holds at a moment.
-pub record State : Type 0 where
+pub record BoardState : Type 0 where
   -- what a read gives
   pub cells : List ℕ
   -- whether a position may differ after a crash
@@ -30,19 +30,19 @@ written at [] ys = ys
 written at (x ∷ xs) ys = written (at + 1) xs (filled at 1 x ys)
 
 -- one step
-abbrev pub step : State → Event → State
+abbrev pub step : BoardState → BoardEvent → BoardState
 step s (Mark at n) = record s { pending = filled at n true s.pending }
 step s (Fill at n x) = record s { cells = filled at n x s.cells }
 step s Sync = record s { pending = replicate (length s.pending) false; synced = s.cells }
 step s (Sent x) = record s { sent = s.sent ++ x ∷ [] }
 
 -- all steps of a record
-abbrev pub run : State → List Event → State
+abbrev pub run : BoardState → List BoardEvent → BoardState
 run s [] = s
 run s (e ∷ es) = run (step s e) es
 
 -- at the start nothing is pending, and nothing was sent
-abbrev pub begun : List ℕ → State
+abbrev pub begun : List ℕ → BoardState
 begun cells = record {
   cells = cells;
   pending = replicate (length cells) false;
@@ -51,21 +51,21 @@ begun cells = record {
 }
 
 -- A position may differ after a crash.
-abbrev pub IsPending : State → ℕ → Type 0
+abbrev pub IsPending : BoardState → ℕ → Type 0
 IsPending s i = get_or s.pending i false ≡ true
 
 -- A crash in that state leaves this image, with exactly these octets sent.
-abbrev pub Outcome : State → List ℕ → List ℕ → Type 0
-Outcome s image sent = Keeps (IsPending s) s.cells image × (sent ≡ s.sent)
+abbrev pub LeftAt : BoardState → List ℕ → List ℕ → Type 0
+LeftAt s image sent = Keeps (IsPending s) s.cells image × (sent ≡ s.sent)
 
 -- A crash in one of the states since the t-th leaves them.
-abbrev pub LeftSince : State → List Event → ℕ → List ℕ → List ℕ → Type 0
+abbrev pub LeftSince : BoardState → List BoardEvent → ℕ → List ℕ → List ℕ → Type 0
 LeftSince start events t image sent =
-    (k : ℕ) × (t ≤ k) × (k ≤ length events) × Outcome (run start (take k events)) image sent
+    (k : ℕ) × (t ≤ k) × (k ≤ length events) × LeftAt (run start (take k events)) image sent
 
 -- what a board means that began with these cells, and whose record has these steps: each of them
 -- is a moment
-abbrev pub view_of : ℕ → List ℕ → List Event → ℕ → ℕ → View
+abbrev pub view_of : ℕ → List ℕ → List BoardEvent → ℕ → ℕ → View
 view_of blocks base events erased faults =
     let now = run (begun base) events in
     record {
@@ -80,12 +80,12 @@ view_of blocks base events erased faults =
     }
 
 -- what a program records behind its mark: each octet in its place
-abbrev pub fills : ℕ → List ℕ → List Event
+abbrev pub fills : ℕ → List ℕ → List BoardEvent
 fills at [] = []
 fills at (x ∷ xs) = Fill at 1 x ∷ fills (at + 1) xs
 
 -- what a send records: each octet
-abbrev pub sends : List ℕ → List Event
+abbrev pub sends : List ℕ → List BoardEvent
 sends [] = []
 sends (x ∷ xs) = Sent x ∷ sends xs
 
@@ -97,24 +97,24 @@ length-filled zero zero x (y ∷ ys) = refl
 length-filled zero (suc n) x (y ∷ ys) = ap suc (length-filled zero n x ys)
 length-filled (suc at) n x (y ∷ ys) = ap suc (length-filled at n x ys)
 
-length-step : (s : State) (e : Event) → length (step s e).cells ≡ length s.cells
+length-step : (s : BoardState) (e : BoardEvent) → length (step s e).cells ≡ length s.cells
 length-step s (Mark at n) = refl
 length-step s (Fill at n x) = length-filled at n x s.cells
 length-step s Sync = refl
 length-step s (Sent x) = refl
 
 -- a record's steps keep the number of cells
-pub length-run : (s : State) (es : List Event) → length (run s es).cells ≡ length s.cells
+pub length-run : (s : BoardState) (es : List BoardEvent) → length (run s es).cells ≡ length s.cells
 length-run s [] = refl
 length-run s (e ∷ es) = length-run (step s e) es ∙ length-step s e
 
 -- a record means an honest board
-pub view_honest : (blocks : ℕ) (base : List ℕ) (events : List Event) (erased faults : ℕ)
+pub view_honest : (blocks : ℕ) (base : List ℕ) (events : List BoardEvent) (erased faults : ℕ)
     → 1 ≤ blocks → blocks ≤ 8276 → length base ≡ 4096 * blocks
     → IsHonest (Unit {0}) (Unit {0}) (view_of blocks base events erased faults)
 view_honest blocks base events erased faults least most size =
-    let P : List ℕ → List ℕ → List Event → Type 0 =
-    λ image s es. Outcome (run (begun base) es) image s in
+    let P : List ℕ → List ℕ → List BoardEvent → Type 0 =
+    λ image s es. LeftAt (run (begun base) es) image s in
     let whole : take (length events) events ≡ events =
     take_all (length events) events (omega arith) in
     record {

@@ -13,3 +13,4 @@ pub mod MemBoard
 pub mod SureViews
 pub mod SureBoard
 pub mod Untold
+pub mod Supply

@@ -1,11 +1,11 @@
 // The steps that a board in memory records of its calls.
 ghost use Rattle.std.specs.Prelude.{◌≡◌, ◌+◌, ◌<◌, ◌≤◌, ◌^◌, [], ◌∷◌, ◌++◌, length, vec_len, vec_capacity};
 ghost use Rattle.edge_board.specs.Events.{fills, sends};
-ghost use Rattle.edge_board.specs.declared.event.Event.TheVariants.{Mark, Fill};
+ghost use Rattle.edge_board.specs.declared.event.BoardEvent.TheVariants.{Mark, Fill};
 
 // What is done to a board in one step. A moment lies before and after each.
 #[derive(Clone, Copy, Debug, PartialEq, Eq)]
-pub(crate) enum Event {
+pub(crate) enum BoardEvent {
     // So many positions from this one on may differ after a crash.
     Mark(u32, u32),
     // So many positions from this one on hold the octet.
@@ -17,19 +17,19 @@ pub(crate) enum Event {
 }
 
 // Records that places become pending and hold the octet.
-pub(crate) fn record_fill(events: &mut Vec<Event>, at: u32, count: u32, octet: u8)
+pub(crate) fn record_fill(events: &mut Vec<BoardEvent>, at: u32, count: u32, octet: u8)
     requires { vec_len events.old + 2 ≤ vec_capacity events.old }
     ensures events { events.new.items
         ≡ events.old.items ++ Mark at count ∷ Fill at count octet ∷ [] }
     ensures len { vec_len events.new ≡ vec_len events.old + 2 }
     ensures capacity { vec_capacity events.new ≡ vec_capacity events.old }
 {
-    events.push_reserved(Event::Mark(at, count));
-    events.push_reserved(Event::Fill(at, count, octet));
+    events.push_reserved(BoardEvent::Mark(at, count));
+    events.push_reserved(BoardEvent::Fill(at, count, octet));
 }
 
 // Records that places become pending and hold the octets, one after the other.
-pub(crate) fn record_program(events: &mut Vec<Event>, at: u32, bytes: &[u8])
+pub(crate) fn record_program(events: &mut Vec<BoardEvent>, at: u32, bytes: &[u8])
     requires room { vec_len events.old + 1 + length bytes.now ≤ vec_capacity events.old }
     requires fits { at + length bytes.now < 2 ^ 32 }
     ensures events { events.new.items
@@ -37,14 +37,14 @@ pub(crate) fn record_program(events: &mut Vec<Event>, at: u32, bytes: &[u8])
     ensures len { vec_len events.new ≡ vec_len events.old + 1 + length bytes.now }
     ensures capacity { vec_capacity events.new ≡ vec_capacity events.old }
 {
-    events.push_reserved(Event::Mark(at, bytes.len() as u32));
+    events.push_reserved(BoardEvent::Mark(at, bytes.len() as u32));
     for (i, octet) in bytes.iter().enumerate() {
-        events.push_reserved(Event::Fill(at + i as u32, 1, *octet));
+        events.push_reserved(BoardEvent::Fill(at + i as u32, 1, *octet));
     }
 }
 
 // Records that octets were sent, and keeps them.
-pub(crate) fn record_send(events: &mut Vec<Event>, sent: &mut Vec<u8>, bytes: &[u8])
+pub(crate) fn record_send(events: &mut Vec<BoardEvent>, sent: &mut Vec<u8>, bytes: &[u8])
     requires room { vec_len events.old + length bytes.now ≤ vec_capacity events.old }
     requires sent { vec_len sent.old + length bytes.now ≤ vec_capacity sent.old }
     ensures events { events.new.items ≡ events.old.items ++ sends bytes.now }
@@ -55,7 +55,7 @@ pub(crate) fn record_send(events: &mut Vec<Event>, sent: &mut Vec<u8>, bytes: &[
     ensures sent_capacity { vec_capacity sent.new ≡ vec_capacity sent.old }
 {
     for octet in bytes {
-        events.push_reserved(Event::Sent(*octet));
+        events.push_reserved(BoardEvent::Sent(*octet));
         sent.push_reserved(*octet);
     }
 }

@@ -1,13 +1,14 @@
 //! The outside as the loader sees it: a source of octets, and a flash with a reply line under one
 //! clock. The model of a power cut is this project's own.
 //!
-//! - `Source` says what a read gives (`bound`, `bytes`, `taken`), and that it fails only where the
-//!   source's count of faults rose (`cause`).
+//! - `Source` says what a read gives (`bound`, `bytes`, `taken`), and that it fails exactly where
+//!   the source's count of faults rose (`cause`).
 //! - `Board` has one record a call (specs/Calls.antt): what stands after Ok and after a failure,
 //!   what the call leaves alone, what a power cut at any of its moments leaves (`effect.time`), and
-//!   that it fails only where the count of faults rose (`cause`). Its law `honest` says that what
-//!   stands there is what a power cut at the present moment may leave.
+//!   that it fails exactly where the count of faults rose (`cause`). Its law `honest` says that
+//!   what stands there is what a power cut at the present moment may leave.
 //! - `send_all` sends all of its octets, or a front of them (`sent`, `partly`, `moments`, `cause`).
+//!   It leaves the flash as it was (`flash`, `changes`).
 //! - `MemSource` and `MemBoard` fail exactly where their maker planned it (`fails`, `plan`), and a
 //!   failure of a board changes nothing but its counts (`failed`).
 //! - `MemBoard::stopped` is the board after a power cut: the picked image, settled, with nothing
@@ -39,18 +40,18 @@ mod failed;
 mod file_board;
 mod mem_board;
 mod mem_source;
+mod octet_queue;
 mod pick;
 mod schedule;
 mod sending;
 mod source;
 mod std_source;
-mod supply;
 mod sure_board;
 mod sure_source;
 #[cfg(test)]
 mod tests;
 
-pub use board::Board;
+pub use board::{BLOCK, Board};
 pub use failed::Failed;
 pub use file_board::FileBoard;
 pub use mem_board::MemBoard;

@@ -7,14 +7,11 @@ ghost use Rattle.edge_board.specs.Events.{run, begun, view_honest};
 ghost use Rattle.edge_board.specs.Picks.{IsPicked};
 
 use crate::cells::{clear_flags, copy_octets, copy_of, mark_filled, mark_written, read_octets};
-use crate::event::{Event, record_fill, record_program, record_send};
+use crate::event::{BoardEvent, record_fill, record_program, record_send};
 use crate::pick::{Pick, pick_cells};
 use crate::schedule::Schedule;
-use crate::{Board, Failed};
+use crate::{BLOCK, Board, Failed};
 use std::alloc::{AllocError, Global};
-
-// Octets of a block.
-const BLOCK: u32 = 4096;
 
 /// A board in memory, which fails where its maker planned it, and tells all that it is asked.
 ///
@@ -31,7 +28,7 @@ pub struct MemBoard {
     pending: Vec<bool>,
     synced: Vec<u8>,
     sent: Vec<u8>,
-    events: Vec<Event>,
+    events: Vec<BoardEvent>,
     erased: u64,
     schedule: Schedule,
     ghost least: { 1 ≤ blocks },
@@ -274,7 +271,7 @@ impl Board for MemBoard {
             (λ _. synced_cells self.new ≡ synced_cells self.old) }
     {
         self.schedule.count(0)?;
-        self.events.push_reserved(Event::Sync);
+        self.events.push_reserved(BoardEvent::Sync);
         clear_flags(&mut self.pending);
         copy_octets(&mut self.synced, &self.cells);
         Ok(())

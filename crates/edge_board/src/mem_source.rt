@@ -5,7 +5,7 @@ ghost use Rattle.std.specs.Io.KnownBytes.{ReadConsumes};
 ghost use Rattle.edge_board.specs.Causes.{HasCause, Counts};
 ghost use Rattle.edge_board.specs.SourcePlan.{FailsNext, given_count, GoesOn};
 
-use crate::supply::Supply;
+use crate::octet_queue::OctetQueue;
 use crate::{Failed, Source};
 
 /// A source in memory, which fails where its maker planned it.
@@ -14,7 +14,7 @@ use crate::{Failed, Source};
 /// octets as fit into the piece and are left. A clause sees all of it by `source_plan`.
 #[derive(Drop)]
 pub struct MemSource {
-    supply: Supply,
+    queue: OctetQueue,
     failing: Vec<u64>,
     size: usize,
     made: u64,
@@ -35,9 +35,9 @@ impl MemSource {
           taken = 0;
           faults = 0;
         } }
-        ensures left { ⟦<MemSource as Source>⟧.left result ≡ Some bytes.items }
-        ensures taken { ⟦<MemSource as Source>⟧.taken result ≡ 0 }
-        ensures faults { ⟦<MemSource as Source>⟧.faults result ≡ 0 }
+        ensures left { (⟦<MemSource as Source>⟧.supply result).left ≡ Some bytes.items }
+        ensures taken { (⟦<MemSource as Source>⟧.supply result).taken ≡ 0 }
+        ensures faults { (⟦<MemSource as Source>⟧.supply result).faults ≡ 0 }
     {
         MemSource::pieces(bytes, failing, usize::MAX)
     }
@@ -53,12 +53,12 @@ impl MemSource {
           taken = 0;
           faults = 0;
         } }
-        ensures left { ⟦<MemSource as Source>⟧.left result ≡ Some bytes.items }
-        ensures taken { ⟦<MemSource as Source>⟧.taken result ≡ 0 }
-        ensures faults { ⟦<MemSource as Source>⟧.faults result ≡ 0 }
+        ensures left { (⟦<MemSource as Source>⟧.supply result).left ≡ Some bytes.items }
+        ensures taken { (⟦<MemSource as Source>⟧.supply result).taken ≡ 0 }
+        ensures faults { (⟦<MemSource as Source>⟧.supply result).faults ≡ 0 }
     {
         MemSource {
-            supply: Supply::new(bytes),
+            queue: OctetQueue::new(bytes),
             failing,
             size,
             made: 0,
@@ -70,11 +70,11 @@ impl MemSource {
 impl Source for MemSource {
     ghost use Rattle.edge_board.specs.MemSource.{source_plan};
 
-    ghost left = { λ s. Some (source_plan s).left };
-
-    ghost taken = { λ s. (source_plan s).taken };
-
-    ghost faults = { λ s. (source_plan s).faults };
+    ghost supply = { λ s. record {
+      left = Some (source_plan s).left;
+      taken = (source_plan s).taken;
+      faults = (source_plan s).faults;
+    } };
 
     fn read(&mut self, into: &mut [u8]) -> Result<usize, Failed>
         ensures bound { ReadsAtMost result into.new }
@@ -98,6 +98,6 @@ impl Source for MemSource {
             self.faults = self.faults.saturating_add(1);
             return Err(Failed);
         }
-        Ok(self.supply.give(into, self.size))
+        Ok(self.queue.give(into, self.size))
     }
 }

@@ -6,12 +6,9 @@ ghost use Rattle.edge_board.specs.SureViews.{cells_honest};
 ghost use Rattle.sha2.specs.Sha256.{sha256};
 
 use crate::cells::{clear_flags, mark_filled, mark_written, read_octets};
-use crate::{Board, Failed};
+use crate::{BLOCK, Board, Failed};
 use sha2::{Digest, Sha256};
 use std::alloc::{AllocError, Global};
-
-// Octets of a block.
-const BLOCK: u32 = 4096;
 
 /// A board in memory that never fails, and keeps no octet of what is sent.
 ///

@@ -4,24 +4,24 @@ ghost use Rattle.std.specs.Io.{ReadsAtMost};
 ghost use Rattle.std.specs.Io.KnownBytes.{ReadConsumes};
 ghost use Rattle.edge_board.specs.Causes.{HasCause, Counts};
 
-use crate::supply::Supply;
+use crate::octet_queue::OctetQueue;
 use crate::{Failed, Source};
 
 /// A source in memory that never fails. Its count of faults is always 0.
 #[derive(Drop)]
 pub struct SureSource {
-    supply: Supply,
+    queue: OctetQueue,
 }
 
 impl SureSource {
     /// A source of these octets.
     pub fn new(bytes: Vec<u8>) -> SureSource
-        ensures left { ⟦<SureSource as Source>⟧.left result ≡ Some bytes.items }
-        ensures taken { ⟦<SureSource as Source>⟧.taken result ≡ 0 }
-        ensures faults { ⟦<SureSource as Source>⟧.faults result ≡ 0 }
+        ensures left { (⟦<SureSource as Source>⟧.supply result).left ≡ Some bytes.items }
+        ensures taken { (⟦<SureSource as Source>⟧.supply result).taken ≡ 0 }
+        ensures faults { (⟦<SureSource as Source>⟧.supply result).faults ≡ 0 }
     {
         SureSource {
-            supply: Supply::new(bytes),
+            queue: OctetQueue::new(bytes),
         }
     }
 }
@@ -29,11 +29,7 @@ impl SureSource {
 impl Source for SureSource {
     ghost use Rattle.edge_board.specs.MemSource.{sure_left, sure_taken};
 
-    ghost left = { λ s. Some (sure_left s) };
-
-    ghost taken = { sure_taken };
-
-    ghost faults = { λ _. 0 };
+    ghost supply = { λ s. record { left = Some (sure_left s); taken = sure_taken s; faults = 0 } };
 
     fn read(&mut self, into: &mut [u8]) -> Result<usize, Failed>
         ensures bound { ReadsAtMost result into.new }
@@ -48,6 +44,6 @@ impl Source for SureSource {
         ensures count { IsOkAnd result
             (λ n. n ≡ min (length into.new) (length (sure_left self.old))) }
     {
-        Ok(self.supply.give(into, usize::MAX))
+        Ok(self.queue.give(into, usize::MAX))
     }
 }

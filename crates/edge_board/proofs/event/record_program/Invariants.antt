@@ -1,6 +1,6 @@
 use Rattle.std.proofs.Common.{◌≡◌, ◌+◌, ◌∷◌, ◌++◌, drop, length, vec_len, vec_capacity}
 use Rattle.edge_board.specs.Events.{fills}
-use Rattle.edge_board.specs.declared.event.Event.TheVariants.{Mark}
+use Rattle.edge_board.specs.declared.event.BoardEvent.TheVariants.{Mark}
 use Rattle.edge_board.proofs.event.record_program.Given as goal
 
 -- the octets so far are recorded

@@ -1,5 +1,5 @@
 use Rattle.std.proofs.Common.{ℕ, List, Bool, length, sym, ◌∙◌, ap, subst}
-use Rattle.edge_board.specs.Events.{State, IsPending}
+use Rattle.edge_board.specs.Events.{BoardState, IsPending}
 use Rattle.edge_board.specs.MemBoard.{mem_view, synced_cells}
 use Rattle.edge_board.specs.Picks.{IsPicked, IsPickedBy}
 use Rattle.edge_board.proofs.MemCalls.{long_cells, long_pending, long_synced, cells_are, is_picked, kept_same, if_ok_map}
@@ -22,7 +22,7 @@ returns-clause-image c =
     c.args.self.synced.items c.pick_cells.new.cells.items) c.deref.ensures.value
     (subst (λ (ss : List ℕ). IsPickedBy c.args.pick c.deref.result.now c.args.self.cells.items ss
     c.pick_cells.new.cells.items) c.deref-2.ensures.value c.pick_cells.ensures) in
-    let picked = subst (λ (st : State). IsPicked c.args.pick (IsPending st) st.cells st.synced
+    let picked = subst (λ (st : BoardState). IsPicked c.args.pick (IsPending st) st.cells st.synced
     c.pick_cells.new.cells.items) (sym c.args.self.stands)
     (is_picked c.args.self.cells.items c.args.self.pending.items c.args.self.synced.items
     c.pick_cells.new.cells.items c.args.pick by) in
