@@ -1,3 +1,3 @@
 pub mod Places
 pub mod States
-pub mod Images
+pub mod Writing

@@ -4,6 +4,7 @@
 //! octet is 0F. To write it, go from `Idle` to `Closed`, `Wiped`, `Sealed`, `Armed` and `Opened`.
 //! The layout and the states are this project's own; the flash is that of `edge_board`.
 //!
+//! - `is_open` tells whether a gate is open (`gate`), and changes nothing (`unchanged`).
 //! - `Idle::close` shuts an open gate (`blanked`, `shut`, `settled`). A gate that isn't open it
 //!   leaves as it is (`already`).
 //! - `Closed::wipe`, `Wiped::erase`, `Wiped::put` and `Wiped::copy` write the manifest and the area
@@ -12,11 +13,17 @@
 //!   `cells`). The gate's block is erased over such a body alone: `rearm` is a call of `Sealed`.
 //! - `Sealed::rearm` erases the gate's block (`armed`, `reads`), and `Armed::open` opens the gate
 //!   (`opened`). With their Ok that is so after each power cut.
-//! - Each of the eight calls on a board, whatever it answers: at each moment since it began the
+//! - Each of the nine calls on a board, whatever it answers: at each moment since it began the
 //!   board differs in the call's own range alone, and nothing was sent (`touches`); it erased so
-//!   many blocks at most (`erased`); it answers a fault only where the board counted one (`cause`).
+//!   many blocks at most (`erased`); it answers a fault exactly where the board counted one
+//!   (`cause`).
 //! - Laws say what this means of each image that a power cut may leave: `shut_is_no_open_image`,
 //!   `settled_board_has_one_image`, `no_open_gate_while_written`, `body_stands_while_switched`.
+//! - Laws say what all calls in a row leave, over any place and any set of free positions. From the
+//!   close of a gate on it is open only where nothing has changed
+//!   (`calls_write_behind_a_closed_gate`). From there to the end of its opening, each image with an
+//!   open gate is the start or has the sealed body, and then each has it
+//!   (`rewriting_leaves_old_or_sealed`).
 //!
 //! Below it stands `edge_board`. A store of several banks stands above it.
 //!
@@ -27,6 +34,7 @@
 #![tactic(auto)]
 
 mod fault;
+mod gate;
 mod laws;
 mod place;
 mod states;
@@ -34,9 +42,10 @@ mod states;
 mod tests;
 
 pub use fault::Fault;
+pub use gate::is_open;
 pub use laws::{
-    body_stands_while_switched, no_open_gate_while_written, settled_board_has_one_image,
-    shut_is_no_open_image,
+    body_stands_while_switched, calls_write_behind_a_closed_gate, no_open_gate_while_written,
+    rewriting_leaves_old_or_sealed, settled_board_has_one_image, shut_is_no_open_image,
 };
 pub use place::Place;
 pub use states::{Armed, Closed, Idle, Opened, Sealed, Wiped};

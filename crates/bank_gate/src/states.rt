@@ -13,9 +13,3 @@ pub use idle::Idle;
 pub use opened::Opened;
 pub use sealed::Sealed;
 pub use wiped::Wiped;
-
-// octets in a block
-const BLOCK: u32 = 4096;
-
-// the octet of an open gate
-const OPEN: u8 = 0x0f;

@@ -2,7 +2,7 @@
 ghost use Rattle.std.specs.Prelude.{◌≡◌, ◌<◌, ◌≤◌};
 ghost use Rattle.edge_board.specs.Board.{IsSettled};
 
-use crate::{Fault, Idle, Place};
+use crate::{Fault, Idle, Place, is_open};
 use edge_board::{Board, MemBoard, Pick};
 use std::alloc::Global;
 use std::test::Fail;
@@ -56,18 +56,18 @@ fn read_after(alloc: Global, start: u8, calls: u64, pick: Pick) -> Result<(u8, [
 }
 
 // Where nothing is open before, the calls are a read, 33 erases, a program, a sync, an erase, a
-// sync, a program and a sync.
+// sync, a program and a sync. The gate's block is erased by the 37th.
 #[test]
 fn opens_over_its_body_alone(rt: HostRuntime) -> Result<(), Fail> {
-    let alloc = rt.alloc();
-    for calls in [0, 1, 34, 35, 36, 37, 38, 39, 40] {
+    for calls in 0..=40 {
         for pick in [Pick::Keep, Pick::Before, Pick::Fill(0x0f), Pick::Fill(0)] {
-            let (gate, octets) = read_after(alloc, 0xff, calls, pick)?;
-            if gate == 0x0f {
-                assert!(rt; calls >= 37, "open after {calls} calls");
-                assert_eq!(rt; octets, OCTETS, "after {calls} calls");
-            }
-            assert!(rt; calls < 40 || gate == 0x0f, "shut after {calls} calls");
+            let (gate, octets) = read_after(rt.alloc(), 0xff, calls, pick)?;
+            let lawful = if gate == 0x0f {
+                calls >= 37 && octets == OCTETS
+            } else {
+                calls < 40
+            };
+            assert!(rt; lawful, "gate {gate} after {calls} calls");
         }
     }
     Ok(())
@@ -76,20 +76,27 @@ fn opens_over_its_body_alone(rt: HostRuntime) -> Result<(), Fail> {
 // Where the gate is open before, a blank and a sync come second and third.
 #[test]
 fn shuts_an_open_gate_first(rt: HostRuntime) -> Result<(), Fail> {
-    let alloc = rt.alloc();
-    for calls in [0, 1, 3, 4, 37, 38, 39, 41, 42] {
+    for calls in 0..=42 {
         for pick in [Pick::Keep, Pick::Before, Pick::Fill(0x0f), Pick::Fill(0)] {
-            let (gate, octets) = read_after(alloc, 0x0f, calls, pick)?;
-            assert!(rt; calls > 1 || gate == 0x0f, "shut after {calls} calls");
-            assert!(rt;
-                !(3..=38).contains(&calls) || gate != 0x0f,
-                "open after {calls} calls"
-            );
-            if calls > 38 && gate == 0x0f {
-                assert_eq!(rt; octets, OCTETS, "after {calls} calls");
-            }
-            assert!(rt; calls < 42 || gate == 0x0f, "shut after {calls} calls");
+            let (gate, octets) = read_after(rt.alloc(), 0x0f, calls, pick)?;
+            let lawful = if gate == 0x0f {
+                calls < 3 || calls > 38 && octets == OCTETS
+            } else {
+                calls > 1 && calls < 42
+            };
+            assert!(rt; lawful, "gate {gate} after {calls} calls");
         }
     }
+    Ok(())
+}
+
+// The gate's octet alone tells, and it is read as it stands.
+#[test]
+fn reads_the_gate(rt: HostRuntime) -> Result<(), Fail> {
+    let mut board = MemBoard::new(rt.alloc(), 100, Vec::new(rt.alloc()), 4, 3)?;
+    board.program(GATE, &[0x0e, 0x0f])?;
+    assert_eq!(rt; is_open(&mut board, PLACE), Ok(false));
+    board.program(GATE, &[0x0f])?;
+    assert_eq!(rt; is_open(&mut board, PLACE), Ok(true));
     Ok(())
 }

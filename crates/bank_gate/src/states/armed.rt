@@ -6,9 +6,10 @@ ghost use Rattle.edge_board.specs.Runs.{Touches};
 ghost use Rattle.bank_gate.specs.Places.{LiesBelow, gate_at};
 ghost use Rattle.bank_gate.specs.States.{IsArmed, IsOpened};
 
-use super::{BLOCK, OPEN, Opened};
+use super::Opened;
+use crate::gate::OPEN;
 use crate::{Fault, Place};
-use edge_board::Board;
+use edge_board::{BLOCK, Board};
 use std::marker::Model;
 
 /// A bank whose gate is FF, over a body that stands, with nothing pending. `Sealed::rearm` alone

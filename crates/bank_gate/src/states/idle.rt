@@ -6,9 +6,9 @@ ghost use Rattle.edge_board.specs.Runs.{Touches};
 ghost use Rattle.bank_gate.specs.Places.{LiesBelow, IsPlace, gate_at};
 ghost use Rattle.bank_gate.specs.States.{IsOpen, IsShut};
 
-use super::{BLOCK, Closed, OPEN};
-use crate::{Fault, Place};
-use edge_board::Board;
+use super::Closed;
+use crate::{Fault, Place, is_open};
+use edge_board::{BLOCK, Board};
 use std::marker::Model;
 
 /// A bank that is to be written, while nothing is pending on the board. It can't be copied or let
@@ -57,13 +57,10 @@ impl Idle {
         ensures cause { HasCause (B.view board.old).faults (B.view board.new).faults result }
     {
         let Idle { place } = self;
-        let at = BLOCK * place.gate;
-        let mut gate = [0u8; 1];
-        board.read(at, &mut gate)?;
-        if gate[0] != OPEN {
+        if !is_open(board, place)? {
             return Ok(Closed { place });
         }
-        board.blank(at)?;
+        board.blank(BLOCK * place.gate)?;
         board.sync()?;
         Ok(Closed { place })
     }

@@ -6,9 +6,9 @@ ghost use Rattle.edge_board.specs.Runs.{Touches};
 ghost use Rattle.bank_gate.specs.Places.{LiesBelow, LiesInBody};
 ghost use Rattle.bank_gate.specs.States.{IsShut, IsSealed, Stands, Copies, RisesAtMost};
 
-use super::{BLOCK, Sealed};
+use super::Sealed;
 use crate::{Fault, Place};
-use edge_board::Board;
+use edge_board::{BLOCK, Board};
 use std::marker::Model;
 
 /// A bank that no power cut leaves open, and whose body is written. `Closed::wipe` and the calls

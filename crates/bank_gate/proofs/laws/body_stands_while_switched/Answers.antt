@@ -1,4 +1,4 @@
-use Rattle.bank_gate.specs.Images.{settled_images, body_not_in_gate}
+use Rattle.bank_gate.proofs.ImageLemmas.{settled_images, body_not_in_gate}
 use Rattle.bank_gate.proofs.laws.body_stands_while_switched.Goals as goal
 
 pub returns : goal.returns

@@ -1,5 +1,5 @@
 use Rattle.std.proofs.Common.{arith}
-use Rattle.bank_gate.specs.Images.{no_image_opens, body_not_in_gate}
+use Rattle.bank_gate.proofs.ImageLemmas.{no_image_opens, body_not_in_gate}
 use Rattle.bank_gate.proofs.laws.no_open_gate_while_written.Goals as goal
 
 pub returns : goal.returns

@@ -1,4 +1,4 @@
-use Rattle.edge_board.specs.Sends.{settled_image}
+use Rattle.edge_board.proofs.RunLemmas.{settled_image}
 use Rattle.bank_gate.proofs.laws.settled_board_has_one_image.Goals as goal
 
 pub returns : goal.returns

@@ -1,4 +1,4 @@
-use Rattle.bank_gate.specs.Images.{shut_images, shut_by_images}
+use Rattle.bank_gate.proofs.ImageLemmas.{shut_images, shut_by_images}
 use Rattle.bank_gate.proofs.laws.shut_is_no_open_image.Goals as goal
 
 pub returns : goal.returns

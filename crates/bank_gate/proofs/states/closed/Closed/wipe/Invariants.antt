@@ -1,4 +1,4 @@
-use Rattle.std.proofs.Common.{◌-◌, ◌*◌, ◌≤◌}
+use Rattle.std.proofs.Common.{◌≡◌, ◌-◌, ◌*◌}
 use Rattle.edge_board.specs.Board.{AllRead}
 use Rattle.edge_board.specs.Runs.{Touches}
 use Rattle.bank_gate.specs.Places.{InManifest}
@@ -15,5 +15,5 @@ invariant-loop-block g l = record {
       (g.B.Board.view l.board).cells;
   erased : RisesAtMost (l.block - l.fn.self.manifest)
       (g.B.Board.view l.fn.board).erased (g.B.Board.view l.board).erased;
-  faults : (g.B.Board.view l.fn.board).faults ≤ (g.B.Board.view l.board).faults;
+  faults : (g.B.Board.view l.board).faults ≡ (g.B.Board.view l.fn.board).faults;
 }

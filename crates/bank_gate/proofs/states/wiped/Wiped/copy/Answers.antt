@@ -1,6 +1,7 @@
 use Rattle.std.proofs.Common.{◌≡◌, ℕ, ◌+◌, ◌*◌, List, length, take, drop, get_or, ◌∙◌, ap, subst, arith, get_or-take, get_or-drop}
 use Rattle.edge_board.specs.Board.{View, Nowhere, Within, InBlock, Effect, IsHonest, Programmed, AllRead, cell}
-use Rattle.edge_board.specs.Runs.{Touches, touch, touch_wider, touch_next}
+use Rattle.edge_board.specs.Runs.{Touches}
+use Rattle.edge_board.proofs.RunLemmas.{touch, touch_wider, touch_next}
 use Rattle.bank_gate.specs.declared.place.Place.{Place}
 use Rattle.bank_gate.specs.Places.{IsPlace}
 use Rattle.bank_gate.specs.States.{IsShut, Copies}

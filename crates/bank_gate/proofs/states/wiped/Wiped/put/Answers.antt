@@ -1,5 +1,5 @@
 use Rattle.std.proofs.Common.{subst}
-use Rattle.edge_board.specs.Runs.{touch}
+use Rattle.edge_board.proofs.RunLemmas.{touch}
 use Rattle.bank_gate.specs.Places.{IsPlace}
 use Rattle.bank_gate.proofs.Shut.{gate_not_in_range, stays_shut}
 use Rattle.bank_gate.proofs.states.wiped.Wiped.put.Goals as goal

@@ -1,8 +1,9 @@
--- Laws: what the clauses of a bank's states say of each image that a power cut may leave.
+-- What the clauses of a bank's states say of each image that a power cut may leave.
 use Rattle.std.proofs.Common.{⊎_elim, inl, inr, ℕ, ◌<◌, List, length, set, sym, ◌∙◌, subst, arith, get_or-set_other, get_or-set_same, length-set}
 use Rattle.std.proofs.lemmas.Bool.{cases_eq}
 use Rattle.edge_board.specs.Board.{View, Keeps, IsHonest, IsSettled, Leaves, InBlock}
-use Rattle.edge_board.specs.Runs.{Touches, keeps_all, keeps_wider}
+use Rattle.edge_board.specs.Runs.{Touches}
+use Rattle.edge_board.proofs.RunLemmas.{keeps_all, keeps_settled}
 use Rattle.bank_gate.specs.declared.place.Place.{Place}
 use Rattle.bank_gate.specs.Places.{IsPlace, LiesBelow, gate_at, InBody}
 use Rattle.bank_gate.specs.States.{IsOpen, IsShut}
@@ -43,8 +44,7 @@ no_image_opens place old new told spared shut touches image s left is =
 pub settled_images : {told : Type 0} {free : ℕ → Type 0} (old new : View) → told → IsSettled old
     → Touches told free old new → (image s : List ℕ) → new.might old.clock image s → Keeps free old.cells image
 settled_images old new told settled touches image s left =
-    let spares = (touches.images told).each image s left in
-    keeps_wider old.cells image (λ i. ⊎_elim (λ f. f) (λ p. absurd (settled i p))) spares.0
+    keeps_settled old image settled ((touches.images told).each image s left).0
 
 -- the gate's block has no position of the manifest or the area
 pub body_not_in_gate : (place : Place) (i : ℕ) → IsPlace place → InBody place i → ¬ InBlock place.gate i
