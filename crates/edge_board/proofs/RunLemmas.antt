@@ -228,3 +228,15 @@ change_then {tc} {free} a b c ab bc = record {
       (ab.images told) (bc.images told)
       (λ image s. rest_then a b (ab.cells told) (ab.pending told) image);
 }
+
+-- the same for more free positions
+pub change_wider : {tc : Type 0} {f g : ℕ → Type 0} (a b : View) → (tc → (i : ℕ) → f i → g i)
+    → Changes tc f a b → Changes tc g a b
+change_wider {tc} {f} {g} a b wider ab = record {
+  blocks = ab.blocks;
+  cells = λ told. keeps_wider a.cells b.cells (wider told) (ab.cells told);
+  pending = λ told i p. ⊎_elim (λ x. inl (wider told i x)) (λ x. inr x) (ab.pending told i p);
+  images = λ told. leaves_weaker a b (λ image s. KeepsRest f a image) (λ image s. KeepsRest g a image)
+      (ab.images told)
+      (λ image s keeps. keeps_wider a.cells image (λ i e. ⊎_elim (λ x. inl (wider told i x)) (λ x. inr x) e) keeps);
+}

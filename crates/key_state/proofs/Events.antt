@@ -4,7 +4,7 @@ use Rattle.std.specs.Prelude.{Contains}
 use Rattle.std.proofs.lemmas.List.{ext_get_or}
 use Rattle.std.proofs.lemmas.List.Elements.{Contains-push, Contains-append_left}
 use Rattle.edge_board.specs.Board.{View, IsHonest, Keeps}
-use Rattle.edge_board.specs.Runs.{Touches}
+use Rattle.edge_board.specs.Runs.{Touches, Changes}
 use Rattle.key_state.specs.Row.{spent_in}
 use Rattle.key_state.specs.KeyBlock.{row_of, row_start, IsLeafCount, InRow, FirstUnspent}
 use Rattle.key_state.specs.Histories.{IsDoubt, IsEvent, SparesRow}
@@ -38,17 +38,17 @@ spend_event told leaves doubt old new honest count blocks doubts touches =
 -- calls that write no position of the row
 pub row_spared : {tc tm : Type 0} → tc → (leaves : ℕ) (doubt : List ℕ) (old new : View) → IsHonest tc tm old
     → IsLeafCount leaves → 18 ≤ old.blocks → IsDoubt leaves old doubt
-    → Touches tc (λ i. ¬ InRow leaves i) old new → SparesRow leaves doubt old new
-row_spared told leaves doubt old new honest count blocks doubts touches =
+    → Changes tc (λ i. ¬ InRow leaves i) old new → SparesRow leaves doubt old new
+row_spared told leaves doubt old new honest count blocks doubts changes =
     let fits = row_fits told leaves old honest count blocks in
     let kept : Keeps (λ place. ⊥) (row_of leaves old.cells) (row_of leaves new.cells) =
-    row_keeps leaves old.cells new.cells fits (λ place lt outside. outside (place, lt, refl)) (touches.cells told) in
+    row_keeps leaves old.cells new.cells fits (λ place lt outside. outside (place, lt, refl)) (changes.cells told) in
     record {
       same = ext_get_or 0 (row_of leaves new.cells) (row_of leaves old.cells) kept.size
           (λ i lt. kept.each i (λ none. none));
       doubts = λ place lt pending. ⊎_elim (λ outside. absurd (outside (place, lt, refl))) (doubts place lt)
-          (touches.pending told (row_start + place) pending);
+          (changes.pending told (row_start + place) pending);
       cuts = λ image s left. row_keeps leaves old.cells image fits
           (λ place lt. ⊎_elim (λ outside. absurd (outside (place, lt, refl))) (λ was. inr (doubts place lt was)))
-          ((touches.images told).each image s left).0;
+          ((changes.images told).each image s left);
     }

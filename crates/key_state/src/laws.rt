@@ -1,7 +1,7 @@
 // Laws over rows and boards, for the layers that make several calls.
 ghost use Rattle.std.specs.Prelude.{◌≡◌, ◌≢◌, ◌↔◌, ℕ, ◌<◌, ◌≤◌, List, length, All, AllPairs};
-ghost use Rattle.edge_board.specs.Board.{IsSettled};
-ghost use Rattle.edge_board.specs.Runs.{Touches};
+ghost use Rattle.edge_board.specs.Board.{IsSettled, Nowhere};
+ghost use Rattle.edge_board.specs.Runs.{Changes, Touches};
 ghost use Rattle.key_state.specs.Row.{spent_in, use_in, IsUsedUp};
 ghost use Rattle.key_state.specs.KeyBlock.{row_of, IsLeafCount, InRow, FirstUnspent};
 ghost use Rattle.key_state.specs.Histories.{Event, IsHistory, leaves_given, IsDoubt};
@@ -13,7 +13,7 @@ use edge_board::Board;
 /// has a greater number than those before, so none is given twice (RFC 8554, section 9.2). After a
 /// power cut the octet of a leaf that wasn't given may be anything, FF too.
 pub fn no_leaf_is_given_twice()
-    ensures { (row doubt : List ℕ) (events : List Event) → IsHistory row doubt events
+    ensures ascends { (row doubt : List ℕ) (events : List Event) → IsHistory row doubt events
         → AllPairs (λ earlier later. earlier < later) (leaves_given events) }
 {}
 
@@ -33,21 +33,26 @@ pub fn spend_is_an_event<B: Board>()
 {}
 
 /// A law: calls that write no position of the row leave it as it reads, and a power cut in them
-/// changes it no more than one before them.
+/// changes it no more than one before them, whatever they send. A `send_all` is such a call by its
+/// clause `changes`.
 pub fn other_calls_spare_the_row<B: Board>()
-    ensures { B.tells_cells → (old new : B) (leaves : ℕ) (doubt : List ℕ) → IsLeafCount leaves
+    ensures spared { B.tells_cells → (old new : B) (leaves : ℕ) (doubt : List ℕ) → IsLeafCount leaves
         → 18 ≤ (B.view old).blocks → IsDoubt leaves (B.view old) doubt
-        → Touches B.tells_cells (λ i. ¬ InRow leaves i) (B.view old) (B.view new)
+        → Changes B.tells_cells (λ i. ¬ InRow leaves i) (B.view old) (B.view new)
+        → SparesRow leaves doubt (B.view old) (B.view new) }
+    ensures sent { B.tells_cells → (old new : B) (leaves : ℕ) (doubt : List ℕ)
+        → IsLeafCount leaves → 18 ≤ (B.view old).blocks → IsDoubt leaves (B.view old) doubt
+        → Changes B.tells_cells Nowhere (B.view old) (B.view new)
         → SparesRow leaves doubt (B.view old) (B.view new) }
 {}
 
 /// A law: the row has an octet for each leaf.
 pub fn row_has_a_place_a_leaf<B: Board>()
-    ensures { B.tells_cells → (board : B) (leaves : ℕ) → IsLeafCount leaves
+    ensures length { B.tells_cells → (board : B) (leaves : ℕ) → IsLeafCount leaves
         → 18 ≤ (B.view board).blocks → length (row_of leaves (B.view board).cells) ≡ leaves }
 {}
 
 /// A law: a row is used up exactly where it has no FF.
 pub fn used_up_has_no_ff()
-    ensures { (row : List ℕ) → IsUsedUp row ↔ All (λ octet. octet ≢ 255) row }
+    ensures row { (row : List ℕ) → IsUsedUp row ↔ All (λ octet. octet ≢ 255) row }
 {}

@@ -9,11 +9,12 @@
 //!   nothing has changed (`all_spent`, `none_left`, `unchanged`).
 //! - Whatever it answers, at each moment since it began the board differs at the row's first
 //!   unspent leaf alone, and nothing was sent (`touches`); no block was erased (`erased`); a fault
-//!   is answered only where the board counted one (`later`, `fault`).
+//!   is answered exactly where the board counted one (`later`, `calm`, `fault`).
 //! - `spent` counts the spent leaves (`count`) and changes nothing (`unchanged`, `touches`).
 //! - `no_leaf_is_given_twice` is the law over all spends and all power cuts between them and inside
 //!   them. `spend_is_an_event` says that `spend` is what the law speaks of (`gives`, `gives_none`),
-//!   and `other_calls_spare_the_row` that calls which don't write the row are nothing to it.
+//!   and `other_calls_spare_the_row` that calls which don't write the row are nothing to it
+//!   (`spared`), a `send_all` between two spends among them (`sent`).
 //! - `row_has_a_place_a_leaf` and `used_up_has_no_ff` are laws of the row alone.
 //!
 //! Below it stands `edge_board`. The signing crates above it take a `Leaf` by value.

@@ -33,7 +33,7 @@ impl Model for Leaf {
 impl Leaf {
     /// The leaf number q, from 0 on.
     pub fn number(&self) -> u32
-        ensures { result ≡ self.now }
+        ensures number { result ≡ self.now }
     {
         self.number
     }
@@ -105,6 +105,8 @@ pub fn spend<B: Board>(board: &mut B, leaves: u32) -> Result<Leaf, SpendFault>
         (B.view board.old) (B.view board.new) }
     ensures erased { (B.view board.new).erased ≡ (B.view board.old).erased }
     ensures later { (B.view board.old).faults ≤ (B.view board.new).faults }
+    ensures calm { ¬ IsErrOf result SpendFault.Fault
+        → (B.view board.new).faults ≡ (B.view board.old).faults }
     ensures fault { IsErrOf result SpendFault.Fault
         → Rose (B.view board.old).faults (B.view board.new).faults }
 {

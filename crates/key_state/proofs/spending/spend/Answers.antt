@@ -1,6 +1,7 @@
 use Rattle.std.proofs.Common.{List, ap, sym, ◌∙◌, ◌≡◌, ◌+◌, ◌<◌, ℕ, arith}
 use Rattle.edge_board.specs.Board.{View, Nowhere, Within, Effect, IsHonest, cell}
-use Rattle.edge_board.specs.Runs.{Touches, touch_wider, touch_next}
+use Rattle.edge_board.specs.Runs.{Touches}
+use Rattle.edge_board.proofs.RunLemmas.{touch_wider, touch_next}
 use Rattle.key_state.specs.Row.{spent_in}
 use Rattle.key_state.specs.KeyBlock.{row_of, row_start, FirstUnspent}
 use Rattle.key_state.proofs.Rows.{row_used, row_fits, row_length}

@@ -1,4 +1,4 @@
-use Rattle.edge_board.specs.Runs.{touch}
+use Rattle.edge_board.proofs.RunLemmas.{touch}
 use Rattle.key_state.proofs.spending.spent.Goals as goal
 
 pub returns-clause-touches : goal.returns-clause-touches
