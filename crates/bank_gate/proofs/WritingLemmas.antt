@@ -51,12 +51,12 @@ module _ {told : Type 0} (place : Place) {free : ℕ → Type 0} (start : View) 
   }
 
   -- what stands while the body is written
-  pub rewrite_written : told → (octets : List ℕ) (new : View) → WritesBehind told place free start new
-      → LeavesOnly start new (RewriteMoment place free start octets)
-  rewrite_written t octets new writes =
+  pub rewrite_written : told → (written : List ℕ → Type 0) (new : View) → WritesBehind told place free start new
+      → LeavesOnly start new (RewriteMoment place free written start)
+  rewrite_written t written new writes =
       leaves_weaker start new
       (λ image s. (IsOpen place image → image ≡ start.cells) × Spares (GateOr place free) start image s)
-      (RewriteMoment place free start octets)
+      (RewriteMoment place free written start)
       (leaves_both start new (λ image s. IsOpen place image → image ≡ start.cells) (Spares (GateOr place free) start)
       (writes.moments t) (writes.touches.images t))
       (λ image s both. (
@@ -74,10 +74,10 @@ module _ {told : Type 0} (place : Place) {free : ℕ → Type 0} (start : View) 
   -- and while the gate is opened over it
   pub rewrite_opened : told → (sealed new : View) → WritesBehind told place free start sealed
       → IsSealed place sealed → Touches told (InBlock place.gate) sealed new
-      → LeavesOnly start new (RewriteMoment place free start sealed.cells)
+      → LeavesOnly start new (RewriteMoment place free (Keeps (InBlock place.gate) sealed.cells) start)
   rewrite_opened t sealed new writes stands switch =
-      goes_on start sealed new (RewriteMoment place free start sealed.cells) (Spares (InBlock place.gate) sealed)
-      (rewrite_written t sealed.cells sealed writes) (switch.images t)
+      goes_on start sealed new (RewriteMoment place free (Keeps (InBlock place.gate) sealed.cells) start) (Spares (InBlock place.gate) sealed)
+      (rewrite_written t (Keeps (InBlock place.gate) sealed.cells) sealed writes) (switch.images t)
       (λ image s spares.
       let keeps = keeps_settled sealed image stands.settled spares.0 in (
         record {

@@ -21,12 +21,13 @@ pub record WritesBehind (told : Type 0) (place : Place) (free : ℕ → Type 0) 
   pub moments : told → LeavesOnly old new (λ image s. IsOpen place image → image ≡ old.cells)
 
 -- What a power cut leaves of the start, from the close of the gate to the end of its opening: where the
--- gate is open, all is as it was at the start, or as it was sealed but for the gate's block.
-pub record RewriteLeaves (place : Place) (free : ℕ → Type 0) (start sealed image : List ℕ) : Type 0 where
-  pub opened : IsOpen place image → (image ≡ start) ⊎ Keeps (InBlock place.gate) sealed image
+-- gate is open, all is as it was at the start, or the body has been written.
+pub record RewriteLeaves (place : Place) (free : ℕ → Type 0) (written : List ℕ → Type 0)
+    (start image : List ℕ) : Type 0 where
+  pub opened : IsOpen place image → (image ≡ start) ⊎ written image
   pub others : Keeps (λ i. InBlock place.gate i ⊎ free i) start image
 
 -- The same, with nothing sent since.
-abbrev pub RewriteMoment : Place → (ℕ → Type 0) → View → List ℕ → List ℕ → List ℕ → Type 0
-RewriteMoment place free start sealed image s =
-    RewriteLeaves place free start.cells sealed image × start.sent s
+abbrev pub RewriteMoment : Place → (ℕ → Type 0) → (List ℕ → Type 0) → View → List ℕ → List ℕ → Type 0
+RewriteMoment place free written start image s =
+    RewriteLeaves place free written start.cells image × start.sent s

@@ -62,17 +62,18 @@ pub fn calls_write_behind_a_closed_gate<B: Board>()
 /// gate is the start, or has the sealed body; with the Ok of `open` each has it.
 pub fn rewriting_leaves_old_or_sealed<B: Board>()
     ensures written { B.tells_cells → (start new : B) (place : Place) (free : ℕ → Bool)
-        (octets : List ℕ) → IsSettled (B.view start)
+        → IsSettled (B.view start)
         → WritesBehind B.tells_cells place (InSet free) (B.view start) (B.view new)
         → LeavesOnly (B.view start) (B.view new)
-        (RewriteMoment place (InSet free) (B.view start) octets) }
+        (RewriteMoment place (InSet free) (λ image. ⊥) (B.view start)) }
     ensures opening { B.tells_cells → (start sealed new : B) (place : Place) (free : ℕ → Bool)
         → IsSettled (B.view start)
         → WritesBehind B.tells_cells place (InSet free) (B.view start) (B.view sealed)
         → IsSealed place (B.view sealed)
         → Touches B.tells_cells (InBlock place.gate) (B.view sealed) (B.view new)
         → LeavesOnly (B.view start) (B.view new)
-        (RewriteMoment place (InSet free) (B.view start) (B.view sealed).cells) }
+        (RewriteMoment place (InSet free) (Keeps (InBlock place.gate) (B.view sealed).cells)
+        (B.view start)) }
     ensures opened { B.tells_cells → (sealed new : B) (place : Place) (image : List ℕ)
         → Touches B.tells_cells (InBlock place.gate) (B.view sealed) (B.view new)
         → IsOpened place (B.view new) → Leaves (B.view new) image

@@ -31,4 +31,4 @@ pub use laws::{
     no_leaf_is_given_twice, other_calls_spare_the_row, row_has_a_place_a_leaf, spend_is_an_event,
     used_up_has_no_ff,
 };
-pub use spending::{Leaf, SpendFault, spend, spent};
+pub use spending::{KEY_BLOCK, Leaf, ROW, SpendFault, spend, spent};

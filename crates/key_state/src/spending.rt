@@ -6,11 +6,14 @@ ghost use Rattle.edge_board.specs.Runs.{Touches};
 ghost use Rattle.key_state.specs.Row.{spent_in, use_in, IsUsedUp};
 ghost use Rattle.key_state.specs.KeyBlock.{row_of, row_start, IsLeafCount, FirstUnspent};
 
-use edge_board::{Board, Failed};
+use edge_board::{BLOCK, Board, Failed};
 use std::marker::Model;
 
-// the position of the row: the first octet of block 17
-const ROW: u32 = 17 * 4096;
+/// The block that has the row.
+pub const KEY_BLOCK: u32 = 17;
+
+/// The position of the row: the first octet of its block.
+pub const ROW: u32 = BLOCK * KEY_BLOCK;
 
 // the octet of an unspent leaf
 const UNSPENT: u8 = 0xff;
@@ -33,7 +36,7 @@ impl Model for Leaf {
 impl Leaf {
     /// The leaf number q, from 0 on.
     pub fn number(&self) -> u32
-        ensures number { result ≡ self.now }
+        ensures { result ≡ self.now }
     {
         self.number
     }
