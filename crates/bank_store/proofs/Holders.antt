@@ -2,7 +2,7 @@
 use Rattle.std.proofs.Common.{◌≡◌, ◌≢◌, ◌⊎◌, inl, inr, ℕ, ◌+◌, List, [], ◌∷◌, ◌++◌, length, drop, Option, Some, None, refl, sym, ◌∙◌, ap, subst, arith}
 use Rattle.std.proofs.lemmas.Bool.{cases_eq, cases_lt}
 use Rattle.std.proofs.lemmas.Option.{none-some, same_Some}
-use Rattle.edge_board.specs.Board.{Keeps, cell}
+use Rattle.edge_board.specs.Board.{cell}
 use Rattle.key_state.specs.KeyBlock.{row_of, row_start}
 use Rattle.lms_verify.specs.Kinds.{height}
 use Rattle.lms_sign.specs.declared.key.SignKey.{SignKey}
@@ -108,7 +108,7 @@ one_holder image (key_board k row_k) (key_board l row_l) a b =
 
 -- images that are the same in blocks 0 to 17
 module _ (a b : List ℕ) (size : length b ≡ length a) (same : (i : ℕ) → InKeyBoard i → cell b i ≡ cell a i) where
-  holds_too : (key : SignKey) → HoldsKey a key → HoldsKey b key
+  pub holds_too : (key : SignKey) → HoldsKey a key → HoldsKey b key
   holds_too key holds = record {
     size = omega (arith, size, holds.size);
     gate = same 0 (omega arith) ∙ holds.gate;
@@ -116,15 +116,7 @@ module _ (a b : List ℕ) (size : length b ≡ length a) (same : (i : ℕ) → I
         (sym (part_same record_start 65536 a b size (λ i lt. same (record_start + i) (omega (arith, lt))))) holds.text;
   }
 
-  row_too : (key : SignKey) → HoldsKey a key → row_of (leaf_count key) a ≡ row_of (leaf_count key) b
+  pub row_too : (key : SignKey) → HoldsKey a key → row_of (leaf_count key) a ≡ row_of (leaf_count key) b
   row_too key holds =
       let few = few_leaves key.kind holds.text.0.low in
       sym (part_same row_start (leaf_count key) a b size (λ i lt. same (row_start + i) (omega (arith, lt, few))))
-
-pub recovers_too : (a b : List ℕ) (holder : Holder) → Keeps (λ i. ¬ InKeyBoard i) a b → Recovers a holder
-    → Recovers b holder
-recovers_too a b nobody keeps none = λ key holds.
-    none key (holds_too b a (sym keeps.size) (λ i lt. sym (keeps.each i (λ out. out lt))) key holds)
-recovers_too a b (key_board key row) keeps is =
-    let same : (i : ℕ) → InKeyBoard i → cell b i ≡ cell a i = λ i lt. keeps.each i (λ out. out lt) in
-    (holds_too a b keeps.size same key is.0, is.1 ∙ row_too a b keeps.size same key is.0)

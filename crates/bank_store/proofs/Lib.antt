@@ -1,4 +1,3 @@
-mod Writing
 mod Images
 mod Reading
 mod Moments

@@ -1,9 +1,8 @@
--- What a format for a key leaves, at each moment.
+-- What a format leaves, at each moment.
 use Rattle.std.specs.Prelude.{◌≡◌, ◌⊎◌, ℕ, List, replicate}
 use Rattle.edge_board.specs.Board.{View, Keeps}
 use Rattle.lms_sign.specs.declared.key.SignKey.{SignKey}
 use Rattle.lms_sign.specs.PublicKeys.{leaf_count}
-use Rattle.bank_store.specs.Layout.{InKeyBoard}
 use Rattle.bank_store.specs.Recovery.{Recovers, IsHeld}
 use Rattle.bank_store.specs.Recovery.Holder.{nobody, key_board}
 
@@ -15,13 +14,13 @@ fresh_row key = replicate (leaf_count key) 255
 abbrev pub RecoversToNewKey : List ℕ → SignKey → Type 0
 RecoversToNewKey image key = Recovers image (key_board key (fresh_row key))
 
--- What a power cut in a format for the key may leave of the cells at its start: all of them, where they recover
--- to a key; else an image that recovers to nobody, or to this key with a row of FF.
-pub record FormatLeaves (key : SignKey) (start image : List ℕ) : Type 0 where
+-- What a power cut in a format, which writes this part and makes such an image, may leave of the cells at its
+-- start: all of them, where somebody holds them; else an image that recovers to nobody, or that is made.
+pub record FormatLeaves (part : ℕ → Type 0) (made : List ℕ → Type 0) (start image : List ℕ) : Type 0 where
   pub held : IsHeld start → image ≡ start
-  pub free : Recovers start nobody → Recovers image nobody ⊎ RecoversToNewKey image key
-  pub others : Keeps InKeyBoard start image
+  pub free : Recovers start nobody → Recovers image nobody ⊎ made image
+  pub others : Keeps part start image
 
 -- The same with nothing sent since.
-abbrev pub FormatMoment : SignKey → View → List ℕ → List ℕ → Type 0
-FormatMoment key start image s = FormatLeaves key start.cells image × start.sent s
+abbrev pub FormatMoment : (ℕ → Type 0) → (List ℕ → Type 0) → View → List ℕ → List ℕ → Type 0
+FormatMoment part made start image s = FormatLeaves part made start.cells image × start.sent s

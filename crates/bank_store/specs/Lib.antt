@@ -1,4 +1,4 @@
 pub mod Layout
 pub mod Recovery
 pub mod Formats
-pub mod Writing
+pub mod Faults

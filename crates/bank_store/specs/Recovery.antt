@@ -26,10 +26,6 @@ Recovers image nobody = (key : SignKey) → ¬ HoldsKey image key
 Recovers image (key_board key row) =
     HoldsKey image key × (row ≡ row_of (leaf_count key) image)
 
--- the image recovers to this key, whatever its row
-abbrev pub RecoversToKey : List ℕ → SignKey → Type 0
-RecoversToKey image key = Recovers image (key_board key (row_of (leaf_count key) image))
-
--- the image recovers to some key
+-- somebody holds the image
 abbrev pub IsHeld : List ℕ → Type 0
-IsHeld image = (key : SignKey) × RecoversToKey image key
+IsHeld image = ¬ Recovers image nobody

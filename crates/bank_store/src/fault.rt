@@ -2,14 +2,13 @@
 ghost use Rattle.std.specs.Prelude.{◌≡◌};
 
 use bank_gate::Fault;
-use edge_board::Failed;
 use std::alloc::AllocError;
 use thiserror::Error;
 
 /// Why no key was read.
 #[derive(Clone, Copy, Debug, PartialEq, Eq, Error)]
 pub enum KeyFault {
-    /// The board recovers to no key.
+    /// No key holds the board.
     #[error("the board holds no key")]
     NotAKey,
     /// The board has failed. The module is to be restarted.
@@ -17,20 +16,40 @@ pub enum KeyFault {
     Fault,
 }
 
-impl From<Failed> for KeyFault {
+impl From<Fault> for KeyFault {
     ghost use Rattle.bank_store.specs.declared.fault.KeyFault.TheVariants.{Fault};
 
     ghost from_gives = { λ _ fault. fault ≡ Fault };
 
-    fn from(_: Failed) -> Self {
+    fn from(_: bank_gate::Fault) -> Self {
         KeyFault::Fault
+    }
+}
+
+/// Why it isn't known whether the board is held.
+#[derive(Clone, Copy, Debug, PartialEq, Eq, Error)]
+pub enum HolderFault {
+    /// The board has failed. The module is to be restarted.
+    #[error("the board has failed")]
+    Fault,
+    #[error("out of memory")]
+    Memory,
+}
+
+impl From<Fault> for HolderFault {
+    ghost use Rattle.bank_store.specs.declared.fault.HolderFault.TheVariants.{Fault};
+
+    ghost from_gives = { λ _ fault. fault ≡ Fault };
+
+    fn from(_: bank_gate::Fault) -> Self {
+        HolderFault::Fault
     }
 }
 
 /// Why a board wasn't formatted.
 #[derive(Clone, Copy, Debug, PartialEq, Eq, Error)]
 pub enum FormatFault {
-    /// The board recovers to a key already.
+    /// The board doesn't recover to nobody.
     #[error("the board is held already")]
     AlreadyHeld,
     /// The board has too few blocks.
@@ -43,13 +62,16 @@ pub enum FormatFault {
     Memory,
 }
 
-impl From<Failed> for FormatFault {
-    ghost use Rattle.bank_store.specs.declared.fault.FormatFault.TheVariants.{Fault};
+impl From<HolderFault> for FormatFault {
+    ghost use Rattle.bank_store.specs.Faults.{format_fault};
 
-    ghost from_gives = { λ _ fault. fault ≡ Fault };
+    ghost from_gives = { λ holder fault. fault ≡ format_fault holder };
 
-    fn from(_: Failed) -> Self {
-        FormatFault::Fault
+    fn from(fault: HolderFault) -> Self {
+        match fault {
+            HolderFault::Fault => FormatFault::Fault,
+            HolderFault::Memory => FormatFault::Memory,
+        }
     }
 }
 

@@ -4,19 +4,19 @@ ghost use Rattle.edge_board.specs.Causes.{HasCause, Rose};
 ghost use Rattle.edge_board.specs.Board.{AllRead, InBlock, IsSettled, Nowhere};
 ghost use Rattle.edge_board.specs.Runs.{LeavesOnly, Touches};
 ghost use Rattle.bank_gate.specs.States.{IsOpened, IsSealed, RisesAtMost, Stands};
+ghost use Rattle.bank_gate.specs.Writing.{WritesBehind};
 ghost use Rattle.key_state.specs.KeyBlock.{row_start};
 ghost use Rattle.lms_sign.specs.PublicKeys.{IsSignKey};
 ghost use Rattle.module_record.specs.KeyRecord.{key_record_text};
-ghost use Rattle.bank_store.specs.Layout.{factory, record_start, InKeyBoard};
+ghost use Rattle.bank_store.specs.Layout.{factory, record_start, InKeyBody, InKeyBoard};
 ghost use Rattle.bank_store.specs.Recovery.{IsHeld};
 ghost use Rattle.bank_store.specs.Formats.{FormatMoment, RecoversToNewKey};
-ghost use Rattle.bank_store.specs.Writing.{WritesBody};
 
-use crate::FormatFault;
-use crate::layout::{FACTORY, KEY_BLOCK, KEY_BOARD_BLOCKS, RECORD};
-use crate::open::held_key;
+use crate::layout::{FACTORY, KEY_BOARD_BLOCKS, RECORD};
+use crate::{FormatFault, is_held};
 use bank_gate::{Fault, Idle, Sealed};
 use edge_board::Board;
+use key_state::KEY_BLOCK;
 use lms_sign::SignKey;
 use module_record::put_key_record;
 use std::alloc::{AllocError, Global};
@@ -31,30 +31,39 @@ pub fn format_key<B: Board>(alloc: Global, board: &mut B, key: &SignKey) -> Resu
     ensures settled { B.tells_cells → ¬ IsErrOf result FormatFault.Fault
         → IsSettled (B.view board.new) }
 
-    // Each refusal but want of memory comes exactly where its cause holds, unless the board fails.
+    // Each refusal but want of memory comes exactly where its cause holds, unless the board fails
+    // or memory is wanting.
     ensures already_held { B.tells_cells → IsErrOf result FormatFault.AlreadyHeld
         → IsHeld (B.view board.old).cells }
     ensures too_small { IsErrOf result FormatFault.TooSmall → (B.view board.old).blocks < 18 }
     ensures held { B.tells_cells → IsHeld (B.view board.old).cells
-        → IsErrOf result FormatFault.AlreadyHeld ⊎ IsErrOf result FormatFault.Fault }
+        → IsErrOf result FormatFault.AlreadyHeld ⊎ IsErrOf result FormatFault.Fault
+        ⊎ IsErrOf result FormatFault.Memory }
     ensures small { (B.view board.old).blocks < 18
         → IsErrOf result FormatFault.TooSmall ⊎ IsErrOf result FormatFault.Fault }
 
-    // A refusal comes before anything is written.
+    // A refusal comes before anything is written, and on a board that is too small nothing is
+    // written whatever is answered.
     ensures refused { IfErr result (λ fault. ¬ (fault ≡ FormatFault.Fault)
-        → Touches B.tells_cells Nowhere (B.view board.old) (B.view board.new)) }
+        → Touches B.tells_cells Nowhere (B.view board.old) (B.view board.new)
+        × ((B.view board.new).erased ≡ (B.view board.old).erased)) }
+    ensures small_stays { (B.view board.old).blocks < 18
+        → Touches B.tells_cells Nowhere (B.view board.old) (B.view board.new)
+        × ((B.view board.new).erased ≡ (B.view board.old).erased) }
 
     // What a power cut at any moment leaves, where nothing was pending.
     ensures moments { B.tells_cells → IsSettled (B.view board.old)
         → LeavesOnly (B.view board.old) (B.view board.new)
-        (FormatMoment key.now (B.view board.old)) }
+        (FormatMoment InKeyBoard (λ image. RecoversToNewKey image key.now) (B.view board.old)) }
     ensures touches { Touches B.tells_cells InKeyBoard (B.view board.old) (B.view board.new) }
     ensures erased { RisesAtMost 18 (B.view board.old).erased (B.view board.new).erased }
     ensures later { (B.view board.old).faults ≤ (B.view board.new).faults }
+    ensures calm { ¬ IsErrOf result FormatFault.Fault
+        → (B.view board.new).faults ≡ (B.view board.old).faults }
     ensures fault { IsErrOf result FormatFault.Fault
         → Rose (B.view board.old).faults (B.view board.new).faults }
 {
-    if held_key(board)?.is_some() {
+    if is_held(alloc, board)? {
         return Err(FormatFault::AlreadyHeld);
     }
     if board.blocks() < KEY_BOARD_BLOCKS {
@@ -87,7 +96,8 @@ fn write_body<B: Board>(board: &mut B, octets: &[u8]) -> Result<Sealed, Fault>
         (B.view board.new).cells) }
     ensures row { B.tells_cells → OnOk result (AllRead row_start 4096 255
         (B.view board.new).cells) }
-    ensures writes { WritesBody B.tells_cells (B.view board.old) (B.view board.new) }
+    ensures writes { WritesBehind B.tells_cells factory InKeyBody
+        (B.view board.old) (B.view board.new) }
     ensures erased { RisesAtMost 17 (B.view board.old).erased (B.view board.new).erased }
     ensures cause { HasCause (B.view board.old).faults (B.view board.new).faults result }
 {

@@ -2,8 +2,11 @@
 ghost use Rattle.std.specs.Prelude.{◌≡◌, ◌<◌, ℕ, List, length};
 ghost use Rattle.edge_board.specs.Board.{Keeps};
 ghost use Rattle.bank_gate.specs.States.{IsOpen};
+ghost use Rattle.key_state.specs.KeyBlock.{row_of};
+ghost use Rattle.lms_sign.specs.declared.key.SignKey.{SignKey};
+ghost use Rattle.lms_sign.specs.PublicKeys.{leaf_count};
 ghost use Rattle.bank_store.specs.Layout.{factory, key_board_size, InKeyBoard};
-ghost use Rattle.bank_store.specs.Recovery.{Holder, Recovers};
+ghost use Rattle.bank_store.specs.Recovery.{Holder, HoldsKey, Recovers};
 ghost use Rattle.bank_store.specs.Recovery.Holder.{nobody};
 
 /// A law: each image recovers to one holder.
@@ -19,8 +22,11 @@ pub fn nobody_holds_a_shut_or_small_board()
     ensures small { (image : List ℕ) → length image < key_board_size → Recovers image nobody }
 {}
 
-/// A law: images that are the same in blocks 0 to 17 recover to the same holder.
+/// A law: images that are the same in blocks 0 to 17 are held by the same key, with the same row.
 pub fn other_blocks_have_no_say()
-    ensures { (first second : List ℕ) (holder : Holder) → Keeps (λ i. ¬ InKeyBoard i) first second
-        → Recovers first holder → Recovers second holder }
+    ensures key { (first second : List ℕ) (key : SignKey)
+        → Keeps (λ i. ¬ InKeyBoard i) first second → HoldsKey first key → HoldsKey second key }
+    ensures row { (first second : List ℕ) (key : SignKey)
+        → Keeps (λ i. ¬ InKeyBoard i) first second → HoldsKey first key
+        → row_of (leaf_count key) first ≡ row_of (leaf_count key) second }
 {}

@@ -1,5 +1,7 @@
 // Where the parts of a key board lie, in blocks of 4,096 octets.
 use bank_gate::Place;
+use edge_board::BLOCK;
+use key_state::KEY_BLOCK;
 
 // how many blocks a key board has
 pub(crate) const KEY_BOARD_BLOCKS: u32 = 18;
@@ -9,18 +11,9 @@ pub(crate) const FACTORY: Place = Place {
     gate: 0,
     manifest: 1,
     manifest_blocks: 16,
-    area: 17,
+    area: KEY_BLOCK,
     area_blocks: 1,
 };
 
-// the position of the gate: the first octet of block 0
-pub(crate) const GATE: u32 = 0;
-
-// the octet of an open gate
-pub(crate) const OPEN: u8 = 0x0f;
-
 // the position of the record: the first octet of block 1
-pub(crate) const RECORD: u32 = 4096;
-
-// the block of the row
-pub(crate) const KEY_BLOCK: u32 = 17;
+pub(crate) const RECORD: u32 = BLOCK;

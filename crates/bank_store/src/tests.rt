@@ -1,12 +1,11 @@
 // Boards in memory that are formatted, cut off and opened.
-use crate::{FormatFault, KeyFault, format_key, open_key};
+use crate::{FormatFault, KeyFault, format_key, is_held, open_key};
 use edge_board::{Board, MemBoard, Pick};
+use key_state::ROW;
 use lms_sign::SignKey;
 use lms_verify::{LmsKind, OtsKind};
 use std::alloc::Global;
 use std::test::Fail;
-
-const ROW: u32 = 17 * 4096;
 
 // what the key's record begins with: its length, 2, the length of the key, 5 for H5, 3 for W4, and
 // the length of SEED (X.690, section 8.1; RFC 8554, sections 4.1 and 5.1)
@@ -86,7 +85,9 @@ fn formats_a_board_once(rt: HostRuntime) -> Result<(), Fail> {
     let alloc = rt.alloc();
     let mut board = MemBoard::new(alloc, 18, Vec::new(alloc), 100, 100)?;
     board.program(ROW, &[0, 0, 0])?;
+    assert_eq!(rt; is_held(alloc, &mut board), Ok(false));
     assert_eq!(rt; format_key(alloc, &mut board, &key_of(1)), Ok(()));
+    assert_eq!(rt; is_held(alloc, &mut board), Ok(true));
     let mut row = [0; 4];
     board.read(ROW, &mut row)?;
     assert_eq!(rt; row, [0xff; 4]);
@@ -115,7 +116,7 @@ fn needs_18_blocks(rt: HostRuntime) -> Result<(), Fail> {
 
 // Whether a board is held that has this octet for its gate, and the record of this number, one
 // octet too far or not, with 00 behind it.
-fn is_held(alloc: Global, gate: u8, moved: bool, number: u8) -> Result<bool, Fail> {
+fn reads_as_key(alloc: Global, gate: u8, moved: bool, number: u8) -> Result<bool, Fail> {
     let mut board = MemBoard::new(alloc, 18, Vec::new(alloc), 10, 100)?;
     let mut record = [0x01; 66];
     record[..15].copy_from_slice(&HEAD);
@@ -137,7 +138,7 @@ fn reads_gate_and_record(rt: HostRuntime) -> Result<(), Fail> {
         (0x0f, true, 2, false),
         (0x0f, false, 1, false),
     ] {
-        let answer = is_held(rt.alloc(), gate, moved, number)?;
+        let answer = reads_as_key(rt.alloc(), gate, moved, number)?;
         assert_eq!(rt; answer, held, "gate {gate}, number {number}");
     }
     Ok(())

@@ -1,41 +1,44 @@
-use Rattle.std.proofs.Common.{length, sym, ◌∙◌, ap, arith}
+use Rattle.std.proofs.Common.{length, ◌∙◌, ap, arith, rules, ℕ, List}
+use Rattle.edge_board.proofs.RunLemmas.{touch_wider}
 use Rattle.module_record.proofs.KeyLaws.{key_size}
-use Rattle.bank_store.proofs.Reading.{held_by, held_by_none}
-use Rattle.bank_store.proofs.Moments.{unwritten, at_body, at_gate, formatted, gate_leaves}
+use Rattle.bank_store.specs.Layout.{InKeyBoard}
+use Rattle.bank_store.specs.Formats.{RecoversToNewKey}
+use Rattle.bank_store.proofs.Moments.{unwritten, at_body, at_gate, formatted, gate_leaves, in_key_board}
+use Rattle.bank_store.proofs.Moments.{format_touches}
 use Rattle.bank_store.proofs.format.format_key.Goals as goal
 
-pub returns-in_err-held_key-clause-moments : goal.returns-in_err-held_key-clause-moments
-returns-in_err-held_key-clause-moments g c = λ told settled.
-    unwritten c.args.key.now _ _ told settled c.held_key.ensures.touches
+pub returns-in_err-is_held-clause-moments : goal.returns-in_err-is_held-clause-moments
+returns-in_err-is_held-clause-moments g c = λ told settled.
+    unwritten told InKeyBoard (λ (image : List ℕ). RecoversToNewKey image c.args.key.now) _ settled _
+    c.is_held.ensures.touches
 
-pub returns-then-is_some-clause-moments : goal.returns-then-is_some-clause-moments
-returns-then-is_some-clause-moments g c = λ told settled.
-    unwritten c.args.key.now _ _ told settled c.held_key.ensures.touches
+pub returns-then-branch-clause-moments : goal.returns-then-branch-clause-moments
+returns-then-branch-clause-moments g c = λ told settled.
+    unwritten told InKeyBoard (λ (image : List ℕ). RecoversToNewKey image c.args.key.now) _ settled _
+    c.is_held.ensures.touches
 
-pub returns-then-is_some-clause-already_held : goal.returns-then-is_some-clause-already_held
-returns-then-is_some-clause-already_held g c = λ told is.
-    held_by _ c.in_ok-held_key.field-0 (sym c.is_some.ensures ∙ c.if-is_some.true)
-    (c.in_ok-held_key.ensures.key told)
+pub returns-then-branch-clause-touches : goal.returns-then-branch-clause-touches
+returns-then-branch-clause-touches g c = touch_wider _ _ (λ told i none. absurd none) c.is_held.ensures.touches
 
 pub returns-then-blocks-lt-KEY_BOARD_BLOCKS-clause-moments :
     goal.returns-then-blocks-lt-KEY_BOARD_BLOCKS-clause-moments
 returns-then-blocks-lt-KEY_BOARD_BLOCKS-clause-moments g c = λ told settled.
-    unwritten c.args.key.now _ _ told settled c.held_key.ensures.touches
+    unwritten told InKeyBoard (λ (image : List ℕ). RecoversToNewKey image c.args.key.now) _ settled _
+    c.is_held.ensures.touches
 
-pub returns-then-blocks-lt-KEY_BOARD_BLOCKS-clause-held :
-    goal.returns-then-blocks-lt-KEY_BOARD_BLOCKS-clause-held
-returns-then-blocks-lt-KEY_BOARD_BLOCKS-clause-held g c = λ told held. absurd
-    (held_by_none _ c.in_ok-held_key.field-0 (sym c.is_some.ensures ∙ c.if-is_some.false)
-    (c.in_ok-held_key.ensures.nobody told) held.0 held.1.0)
+pub returns-then-blocks-lt-KEY_BOARD_BLOCKS-clause-touches :
+    goal.returns-then-blocks-lt-KEY_BOARD_BLOCKS-clause-touches
+returns-then-blocks-lt-KEY_BOARD_BLOCKS-clause-touches g c =
+    touch_wider _ _ (λ told i none. absurd none) c.is_held.ensures.touches
 
 pub returns-in_err-record-clause-moments : goal.returns-in_err-record-clause-moments
 returns-in_err-record-clause-moments g c = λ told settled.
-    unwritten c.args.key.now _ _ told settled c.held_key.ensures.touches
+    unwritten told InKeyBoard (λ (image : List ℕ). RecoversToNewKey image c.args.key.now) _ settled _
+    c.is_held.ensures.touches
 
-pub returns-in_err-record-clause-held : goal.returns-in_err-record-clause-held
-returns-in_err-record-clause-held g c = λ told held. absurd
-    (held_by_none _ c.in_ok-held_key.field-0 (sym c.is_some.ensures ∙ c.if-is_some.false)
-    (c.in_ok-held_key.ensures.nobody told) held.0 held.1.0)
+pub returns-in_err-record-clause-touches : goal.returns-in_err-record-clause-touches
+returns-in_err-record-clause-touches g c =
+    touch_wider _ _ (λ told i none. absurd none) c.is_held.ensures.touches
 
 pub write_body-requires-clause-fits : goal.write_body-requires-clause-fits
 write_body-requires-clause-fits g c =
@@ -47,18 +50,18 @@ write_body-requires-clause-fits g c =
 
 pub returns-in_err-sealed-clause-moments : goal.returns-in_err-sealed-clause-moments
 returns-in_err-sealed-clause-moments g c = λ told settled.
-    at_body told c.args.key.now _ (g.B.Board.view c.held_key.new.board) _
-    (held_by_none _ c.in_ok-held_key.field-0 (sym c.is_some.ensures ∙ c.if-is_some.false)
-    (c.in_ok-held_key.ensures.nobody told)) settled c.held_key.ensures.touches
-    (c.held_key.ensures.unchanged told) (c.in_ok-held_key.ensures.settled told) c.write_body.ensures.writes
+    at_body told InKeyBoard (λ (image : List ℕ). RecoversToNewKey image c.args.key.now) _ settled
+    (g.B.Board.view c.is_held.new.board) ((c.in_ok-is_held.ensures.nobody told).0 c.if-branch.false)
+    c.is_held.ensures.touches (c.is_held.ensures.unchanged told) in_key_board
+    (c.in_ok-is_held.ensures.settled told (search rules)) _ c.write_body.ensures.writes
 
 pub returns-in_err-open_gate-clause-moments : goal.returns-in_err-open_gate-clause-moments
 returns-in_err-open_gate-clause-moments g c = λ told settled.
-    at_gate told c.args.key.now _ (g.B.Board.view c.held_key.new.board) _
-    (held_by_none _ c.in_ok-held_key.field-0 (sym c.is_some.ensures ∙ c.if-is_some.false)
-    (c.in_ok-held_key.ensures.nobody told)) settled c.held_key.ensures.touches
-    (c.held_key.ensures.unchanged told) (c.in_ok-held_key.ensures.settled told) c.write_body.ensures.writes
-    (c.in_ok-sealed.ensures.sealed told) _ c.open_gate.ensures.touches
+    at_gate told InKeyBoard (λ (image : List ℕ). RecoversToNewKey image c.args.key.now) _ settled
+    (g.B.Board.view c.is_held.new.board) ((c.in_ok-is_held.ensures.nobody told).0 c.if-branch.false)
+    c.is_held.ensures.touches (c.is_held.ensures.unchanged told) in_key_board
+    (c.in_ok-is_held.ensures.settled told (search rules)) _ _ c.write_body.ensures.writes (c.in_ok-sealed.ensures.sealed told)
+    c.open_gate.ensures.touches
     (gate_leaves told c.args.key.now c.in_ok-record.ensures.valid c.deref.result.now
     (c.deref.ensures.value ∙ c.in_ok-record.ensures.text) _ (g.met.B.Board.honest c.write_body.new.board)
     (omega (
@@ -68,18 +71,25 @@ returns-in_err-open_gate-clause-moments g c = λ told settled.
       c.write_body.ensures.writes.touches.blocks,
     )) (c.in_ok-sealed.ensures.record told) (c.in_ok-sealed.ensures.row told))
 
+pub returns-in_err-open_gate-clause-touches : goal.returns-in_err-open_gate-clause-touches
+returns-in_err-open_gate-clause-touches g c =
+    format_touches _ _ _ _ c.is_held.ensures.touches c.write_body.ensures.writes c.open_gate.ensures.touches
+
 pub returns-clause-held : goal.returns-clause-held
-returns-clause-held g c = λ told held. absurd
-    (held_by_none _ c.in_ok-held_key.field-0 (sym c.is_some.ensures ∙ c.if-is_some.false)
-    (c.in_ok-held_key.ensures.nobody told) held.0 held.1.0)
+returns-clause-held g c = λ told held.
+    absurd (held ((c.in_ok-is_held.ensures.nobody told).0 c.if-branch.false))
+
+pub returns-clause-touches : goal.returns-clause-touches
+returns-clause-touches g c =
+    format_touches _ _ _ _ c.is_held.ensures.touches c.write_body.ensures.writes c.open_gate.ensures.touches
 
 pub returns-clause-moments : goal.returns-clause-moments
 returns-clause-moments g c = λ told settled.
-    at_gate told c.args.key.now _ (g.B.Board.view c.held_key.new.board) _
-    (held_by_none _ c.in_ok-held_key.field-0 (sym c.is_some.ensures ∙ c.if-is_some.false)
-    (c.in_ok-held_key.ensures.nobody told)) settled c.held_key.ensures.touches
-    (c.held_key.ensures.unchanged told) (c.in_ok-held_key.ensures.settled told) c.write_body.ensures.writes
-    (c.in_ok-sealed.ensures.sealed told) _ c.open_gate.ensures.touches
+    at_gate told InKeyBoard (λ (image : List ℕ). RecoversToNewKey image c.args.key.now) _ settled
+    (g.B.Board.view c.is_held.new.board) ((c.in_ok-is_held.ensures.nobody told).0 c.if-branch.false)
+    c.is_held.ensures.touches (c.is_held.ensures.unchanged told) in_key_board
+    (c.in_ok-is_held.ensures.settled told (search rules)) _ _ c.write_body.ensures.writes (c.in_ok-sealed.ensures.sealed told)
+    c.open_gate.ensures.touches
     (gate_leaves told c.args.key.now c.in_ok-record.ensures.valid c.deref.result.now
     (c.deref.ensures.value ∙ c.in_ok-record.ensures.text) _ (g.met.B.Board.honest c.write_body.new.board)
     (omega (

@@ -4,36 +4,40 @@ use Rattle.edge_board.specs.Runs.{Touches}
 use Rattle.bank_gate.specs.declared.place.Place.{Place}
 use Rattle.bank_gate.specs.Places.{InManifest, gate_at}
 use Rattle.bank_gate.specs.States.{IsOpen, IsShut}
-use Rattle.bank_store.specs.Layout.{factory}
-use Rattle.bank_store.specs.Writing.{WritesBody}
-use Rattle.bank_store.proofs.Writing.{write_first, write_next}
+use Rattle.bank_gate.specs.Writing.{WritesBehind}
+use Rattle.bank_gate.proofs.WritingLemmas.{close_first, write_next}
+use Rattle.bank_store.specs.Layout.{factory, InKeyBody}
 use Rattle.bank_store.proofs.format.write_body.Goals as goal
 
 -- the calls in turn, each with the place of its state
 module _ {told : Type 0} (a : View) (settled : told → IsSettled a) where
   closed : (p : Place) → p ≡ factory → (b : View) → Touches told (Within (gate_at p) 1) a b
-      → (told → ¬ IsOpen p a.cells → Touches told Nowhere a b) → WritesBody told a b
-  closed p is b close already = write_first a settled b
+      → (told → ¬ IsOpen p a.cells → Touches told Nowhere a b) → WritesBehind told factory InKeyBody a b
+  closed p is b close already = close_first factory a settled b
       (subst (λ (q : Place). Touches told (Within (gate_at q) 1) a b) is close)
       (subst (λ (q : Place). told → ¬ IsOpen q a.cells → Touches told Nowhere a b) is already)
 
-  module _ (b : View) (so_far : WritesBody told a b) (p : Place) (is : p ≡ factory) (shut : told → IsShut p b) where
-    next : {free : ℕ → Type 0} (c : View) → ((i : ℕ) → free i → Within 4096 69632 i) → Touches told free b c
-        → WritesBody told a c
-    next c inside touches = write_next a settled b c inside so_far
+  module _ (b : View) (so_far : WritesBehind told factory InKeyBody a b) (p : Place) (is : p ≡ factory)
+      (shut : told → IsShut p b) where
+    next : {part : ℕ → Type 0} (c : View) → ((i : ℕ) → part i → InKeyBody i) → Touches told part b c
+        → WritesBehind told factory InKeyBody a c
+    next c inside touches = write_next factory a settled b c inside
+        (λ gate. omega (arith, (inside (gate_at factory) gate).0)) so_far
         (subst (λ (q : Place). told → IsShut q b) is shut) touches
 
-    wiped : (c : View) (q : Place) → q ≡ factory → Touches told (InManifest q) b c → WritesBody told a c
+    wiped : (c : View) (q : Place) → q ≡ factory → Touches told (InManifest q) b c
+        → WritesBehind told factory InKeyBody a c
     wiped c q same touches = next c (λ i w. (omega (arith, w.0), omega (arith, w.1)))
         (subst (λ (r : Place). Touches told (InManifest r) b c) same touches)
 
-    put : (n : ℕ) → n ≤ 65536 → (c : View) → Touches told (Within 4096 n) b c → WritesBody told a c
+    put : (n : ℕ) → n ≤ 65536 → (c : View) → Touches told (Within 4096 n) b c
+        → WritesBehind told factory InKeyBody a c
     put n few c touches = next c (λ i w. (w.0, omega (arith, w.1, few))) touches
 
-    erased : (c : View) → Touches told (InBlock 17) b c → WritesBody told a c
+    erased : (c : View) → Touches told (InBlock 17) b c → WritesBehind told factory InKeyBody a c
     erased c touches = next c (λ i w. (omega (arith, w.0), omega (arith, w.1))) touches
 
-    sealed : (c : View) → Touches told Nowhere b c → WritesBody told a c
+    sealed : (c : View) → Touches told Nowhere b c → WritesBehind told factory InKeyBody a c
     sealed c touches = next c (λ i none. absurd none) touches
 
 pub returns-in_err-closed-clause-writes : goal.returns-in_err-closed-clause-writes

@@ -1,5 +1,10 @@
-use Rattle.bank_store.proofs.Holders.{recovers_too}
+use Rattle.bank_store.proofs.Holders.{holds_too, row_too}
 use Rattle.bank_store.proofs.laws.other_blocks_have_no_say.Goals as goal
 
-pub returns : goal.returns
-returns c = recovers_too
+pub returns-clause-key : goal.returns-clause-key
+returns-clause-key c = λ first second key keeps.
+    holds_too first second keeps.size (λ i lt. keeps.each i (λ out. out lt)) key
+
+pub returns-clause-row : goal.returns-clause-row
+returns-clause-row c = λ first second key keeps.
+    row_too first second keeps.size (λ i lt. keeps.each i (λ out. out lt)) key

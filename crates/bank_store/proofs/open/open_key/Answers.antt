@@ -1,10 +1,10 @@
-use Rattle.bank_store.proofs.Moments.{only_start}
+use Rattle.edge_board.proofs.RunLemmas.{only_start}
 use Rattle.bank_store.proofs.Reading.{not_a_key, refuses}
 use Rattle.bank_store.proofs.open.open_key.Goals as goal
 
 pub returns-clause-not_a_key : goal.returns-clause-not_a_key
 returns-clause-not_a_key g c = λ told.
-    not_a_key _ c.in_ok-held_key.field-0 _ c.ok_or.result c.ok_or.ensures.value (c.in_ok-held_key.ensures.nobody told)
+    not_a_key _ c.in_ok-held_key.field-0 _ c.ok_or.result c.ok_or.ensures.value (c.in_ok-held_key.ensures.none told)
 
 pub returns-clause-refuses : goal.returns-clause-refuses
 returns-clause-refuses g c = λ told.
