@@ -160,14 +160,14 @@ impl MemBoard {
 
     /// What was sent.
     pub fn sent_octets(&self) -> &[u8]
-        ensures { (mem_view self.now).sent result.now }
+        ensures sent { (mem_view self.now).sent result.now }
     {
         &self.sent
     }
 
     /// How many blocks were erased.
     pub fn erase_count(&self) -> u64
-        ensures { result ≡ (mem_view self.now).erased }
+        ensures erased { result ≡ (mem_view self.now).erased }
     {
         self.erased
     }

@@ -50,7 +50,7 @@ impl SureBoard {
 
     /// The SHA-256 of what was sent.
     pub fn digest(self) -> [u8; 32]
-        ensures { (s : List ℕ) → (sure_view self).sent s → result ≡ sha256 s }
+        ensures digest { (s : List ℕ) → (sure_view self).sent s → result ≡ sha256 s }
     {
         let SureBoard { hash, .. } = self;
         hash.finalize()

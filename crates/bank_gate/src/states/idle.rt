@@ -32,7 +32,7 @@ impl Idle {
     /// The way in: a bank that is to be written.
     pub fn new(place: Place) -> Idle
         requires { IsPlace place }
-        ensures { result ≡ place }
+        ensures place { result ≡ place }
     {
         Idle { place }
     }

@@ -42,33 +42,33 @@ module _ {told : Type 0} (a : View) (settled : told → IsSettled a) where
 
 pub returns-in_err-closed-clause-writes : goal.returns-in_err-closed-clause-writes
 returns-in_err-closed-clause-writes g c =
-    closed _ c.requires.settled c.new.result c.new.ensures _ c.close.ensures.touches c.close.ensures.already
+    closed _ c.requires.settled c.new.result c.new.ensures.place _ c.close.ensures.touches c.close.ensures.already
 
 pub returns-in_err-wiped-clause-writes : goal.returns-in_err-wiped-clause-writes
 returns-in_err-wiped-clause-writes g c = wiped _ c.requires.settled _
-    (closed _ c.requires.settled c.new.result c.new.ensures _ c.close.ensures.touches c.close.ensures.already)
-    c.new.result c.new.ensures (λ told. c.in_ok-closed.ensures.shut told) _ c.in_ok-closed.closed
-    (c.in_ok-closed.ensures.place ∙ c.new.ensures) c.wipe.ensures.touches
+    (closed _ c.requires.settled c.new.result c.new.ensures.place _ c.close.ensures.touches c.close.ensures.already)
+    c.new.result c.new.ensures.place (λ told. c.in_ok-closed.ensures.shut told) _ c.in_ok-closed.closed
+    (c.in_ok-closed.ensures.place ∙ c.new.ensures.place) c.wipe.ensures.touches
 
 pub returns-in_err-put-clause-writes : goal.returns-in_err-put-clause-writes
 returns-in_err-put-clause-writes g c = put _ c.requires.settled _
     (wiped _ c.requires.settled _
-    (closed _ c.requires.settled c.new.result c.new.ensures _ c.close.ensures.touches c.close.ensures.already)
-    c.new.result c.new.ensures (λ told. c.in_ok-closed.ensures.shut told) _ c.in_ok-closed.closed
-    (c.in_ok-closed.ensures.place ∙ c.new.ensures) c.wipe.ensures.touches)
-    c.in_ok-closed.closed (c.in_ok-closed.ensures.place ∙ c.new.ensures) c.wipe.ensures.shut
+    (closed _ c.requires.settled c.new.result c.new.ensures.place _ c.close.ensures.touches c.close.ensures.already)
+    c.new.result c.new.ensures.place (λ told. c.in_ok-closed.ensures.shut told) _ c.in_ok-closed.closed
+    (c.in_ok-closed.ensures.place ∙ c.new.ensures.place) c.wipe.ensures.touches)
+    c.in_ok-closed.closed (c.in_ok-closed.ensures.place ∙ c.new.ensures.place) c.wipe.ensures.shut
     (length c.args.octets.now) c.requires.fits _ c.put.ensures.touches
 
 pub returns-in_err-erased-clause-writes : goal.returns-in_err-erased-clause-writes
 returns-in_err-erased-clause-writes g c = erased _ c.requires.settled _
     (put _ c.requires.settled _
     (wiped _ c.requires.settled _
-    (closed _ c.requires.settled c.new.result c.new.ensures _ c.close.ensures.touches c.close.ensures.already)
-    c.new.result c.new.ensures (λ told. c.in_ok-closed.ensures.shut told) _ c.in_ok-closed.closed
-    (c.in_ok-closed.ensures.place ∙ c.new.ensures) c.wipe.ensures.touches)
-    c.in_ok-closed.closed (c.in_ok-closed.ensures.place ∙ c.new.ensures) c.wipe.ensures.shut
+    (closed _ c.requires.settled c.new.result c.new.ensures.place _ c.close.ensures.touches c.close.ensures.already)
+    c.new.result c.new.ensures.place (λ told. c.in_ok-closed.ensures.shut told) _ c.in_ok-closed.closed
+    (c.in_ok-closed.ensures.place ∙ c.new.ensures.place) c.wipe.ensures.touches)
+    c.in_ok-closed.closed (c.in_ok-closed.ensures.place ∙ c.new.ensures.place) c.wipe.ensures.shut
     (length c.args.octets.now) c.requires.fits _ c.put.ensures.touches)
-    c.in_ok-wiped.wiped (c.in_ok-wiped.ensures.place ∙ c.in_ok-closed.ensures.place ∙ c.new.ensures)
+    c.in_ok-wiped.wiped (c.in_ok-wiped.ensures.place ∙ c.in_ok-closed.ensures.place ∙ c.new.ensures.place)
     c.put.ensures.shut _ c.erase.ensures.touches
 
 pub returns-clause-writes : goal.returns-clause-writes
@@ -76,13 +76,13 @@ returns-clause-writes g c = sealed _ c.requires.settled _
     (erased _ c.requires.settled _
     (put _ c.requires.settled _
     (wiped _ c.requires.settled _
-    (closed _ c.requires.settled c.new.result c.new.ensures _ c.close.ensures.touches c.close.ensures.already)
-    c.new.result c.new.ensures (λ told. c.in_ok-closed.ensures.shut told) _ c.in_ok-closed.closed
-    (c.in_ok-closed.ensures.place ∙ c.new.ensures) c.wipe.ensures.touches)
-    c.in_ok-closed.closed (c.in_ok-closed.ensures.place ∙ c.new.ensures) c.wipe.ensures.shut
+    (closed _ c.requires.settled c.new.result c.new.ensures.place _ c.close.ensures.touches c.close.ensures.already)
+    c.new.result c.new.ensures.place (λ told. c.in_ok-closed.ensures.shut told) _ c.in_ok-closed.closed
+    (c.in_ok-closed.ensures.place ∙ c.new.ensures.place) c.wipe.ensures.touches)
+    c.in_ok-closed.closed (c.in_ok-closed.ensures.place ∙ c.new.ensures.place) c.wipe.ensures.shut
     (length c.args.octets.now) c.requires.fits _ c.put.ensures.touches)
-    c.in_ok-wiped.wiped (c.in_ok-wiped.ensures.place ∙ c.in_ok-closed.ensures.place ∙ c.new.ensures)
+    c.in_ok-wiped.wiped (c.in_ok-wiped.ensures.place ∙ c.in_ok-closed.ensures.place ∙ c.new.ensures.place)
     c.put.ensures.shut _ c.erase.ensures.touches)
     c.in_ok-put.put
-    (c.in_ok-put.ensures.place ∙ c.in_ok-wiped.ensures.place ∙ c.in_ok-closed.ensures.place ∙ c.new.ensures)
+    (c.in_ok-put.ensures.place ∙ c.in_ok-wiped.ensures.place ∙ c.in_ok-closed.ensures.place ∙ c.new.ensures.place)
     c.erase.ensures.shut _ c.seal.ensures.touches
