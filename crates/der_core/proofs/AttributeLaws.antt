@@ -1,10 +1,9 @@
 -- An attribute is read exactly where the octets are its text, and so are elements one after the other, and an
 -- element alone.
-use Rattle.std.proofs.Common.{◌≡◌, ℕ, zero, suc, ◌^◌, ◌<◌, true, false, cond, eqb, List, [], ◌∷◌, ◌++◌}
+use Rattle.std.proofs.Common.{◌≡◌, ℕ, ◌^◌, ◌<◌, true, false, cond, eqb, List, [], ◌∷◌, ◌++◌}
 use Rattle.std.proofs.Common.{length, Option, Some, None, refl, sym, ap, subst, ◌∙◌, arith}
-use Rattle.std.specs.List.{AllByRecursion, flat_map}
+use Rattle.std.specs.List.{AllByRecursion, flat_map, concat}
 use Rattle.std.specs.Prelude.{IsTrue, is_some, ◌↔◌}
-use Rattle.std.specs.Int.Digits.{AllBelowBase}
 use Rattle.std.proofs.lemmas.Bool.{eqb-true, eq-eqb, false≢true}
 use Rattle.std.proofs.lemmas.List.{append-nil, nil_from_length, length-append}
 use Rattle.std.proofs.lemmas.List.Concat.{concat_is}
@@ -17,7 +16,7 @@ use Rattle.der_core.specs.Element.{enc, IsElement}
 use Rattle.der_core.specs.Objects.{IsOid}
 use Rattle.der_core.specs.Reading.{◌>>?◌, front_of, tagged_of}
 use Rattle.der_core.specs.Shapes.{IsFront, IsWhole, IsOneElement, element, listed, anything, any_element}
-use Rattle.der_core.proofs.Digits.{IsOctets, IsOctets-left}
+use Rattle.der_core.proofs.Digits.{AreOctets, AreOctets-left}
 use Rattle.der_core.proofs.Element.{element_takes}
 use Rattle.der_core.proofs.Numbers.{some_bind, some_is}
 use Rattle.der_core.proofs.Shapes.{is_tag, element-front, sized-element-front, same-front, alone-whole}
@@ -76,7 +75,7 @@ element_some element (tag, contents, h, is) = rw is (enc_some tag contents)
 elements-whole : IsWhole (flat_map (λ (element : List ℕ). element)) (AllByRecursion IsOneElement) (listed any_element)
 elements-whole = listed-whole element_some any_element_falls any_element-front
 
-pub are_elements_take : (octets : List ℕ) → IsOctets octets → are_elements octets ≡ true → AreElements octets
+pub are_elements_take : (octets : List ℕ) → AreOctets octets → are_elements octets ≡ true → AreElements octets
 unfolding are_elements
 are_elements_take octets are test = by_case (listed any_element octets) refl test
   where
@@ -96,13 +95,9 @@ are_elements_again octets (elements, each, is) =
     ∙ ap is_some (elements-whole.again elements each)
 
 -- octets below the base, place by place
-octets_from : (octets : List ℕ) → AllBelowBase 256 octets → IsOctets octets
-octets_from [] below i = omega arith
-octets_from (o ∷ os) below zero = below.0
-octets_from (o ∷ os) below (suc i) = octets_from os below.1 i
 
-pub are_elements_says : (octets : List ℕ) → AllBelowBase 256 octets → IsTrue (are_elements octets) ↔ AreElements octets
-are_elements_says octets below = (are_elements_take octets (octets_from octets below), are_elements_again octets)
+pub are_elements_says : (octets : List ℕ) → AreOctets octets → IsTrue (are_elements octets) ↔ AreElements octets
+are_elements_says octets are = (are_elements_take octets are, are_elements_again octets)
 
 -- an element is passed, and elements are left
 pub passed : (octets : List ℕ) → IsTrue (are_elements octets) → 0 < length octets
@@ -118,7 +113,7 @@ passed octets test some = by_case (front_of octets) refl
 
 -- ---- one element
 
-one_take : (octets : List ℕ) (value : ℕ × List ℕ) → IsOctets octets → one_element_of octets ≡ Some value
+one_take : (octets : List ℕ) (value : ℕ × List ℕ) → AreOctets octets → one_element_of octets ≡ Some value
     → IsElement value.0 value.1 × (octets ≡ enc value.0 value.1)
 unfolding one_element_of
 one_take octets value are e =
@@ -181,13 +176,23 @@ attr-front = record {
       let b = some_bind (any_element bytes) (λ y. attribute_of y.0 >>? λ a. Some (a, y.1)) x e in
       let c = some_bind (attribute_of b.0.0) (λ a. Some (a, b.0.1)) x b.2 in
       let t = any_element-front.takes bytes b.0 octets b.1 in
-      let w = attr-whole.takes b.0.0 c.0 (IsOctets-left b.0.0 b.0.1 (subst IsOctets t.1 octets)) c.1 in
+      let w = attr-whole.takes b.0.0 c.0 (AreOctets-left b.0.0 b.0.1 (subst AreOctets t.1 octets)) c.1 in
       subst (λ (y : Attribute × List ℕ). IsAttribute y.0
       × (bytes ≡ attribute_text y.0 ++ y.1)) (some_is (c.0, b.0.1) x c.2)
       (w.0, t.1 ∙ ap (λ (z : List ℕ). z ++ b.0.1) w.1);
   again = λ a rest h.
       rw (any_element-front.again (attribute_text a) rest (attribute_element a h), attr-whole.again a h) refl;
 }
+
+-- octets are one list of elements at most
+pub one_elements : (these those : List (List ℕ)) → AllByRecursion IsOneElement these
+    → AllByRecursion IsOneElement those → concat these ≡ concat those → these ≡ those
+one_elements these those each each' e =
+    some_is these those (sym (read these each) ∙ ap (listed any_element) e ∙ read those each')
+  where
+    read : (elements : List (List ℕ)) → AllByRecursion IsOneElement elements
+        → listed any_element (concat elements) ≡ Some elements
+    read elements each = ap (listed any_element) (concat_is elements) ∙ elements-whole.again elements each
 
 pub one_attribute : (a b : Attribute) → IsAttribute a → IsAttribute b → attribute_text a ≡ attribute_text b → a ≡ b
 one_attribute a b h k e = some_is a b (sym (attr-whole.again a h) ∙ ap attribute_of e ∙ attr-whole.again b k)

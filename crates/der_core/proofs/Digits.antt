@@ -1,5 +1,5 @@
 -- Digits that begin with no 0 are the digits of their number.
-use Rattle.std.proofs.Common.{◌≡◌, ℕ, suc, ◌+◌, ◌*◌, ◌/◌, ◌%◌, ◌<◌, ◌≤◌, List, [], ◌∷◌, ◌++◌, length, get_or}
+use Rattle.std.proofs.Common.{◌≡◌, ℕ, zero, suc, ◌+◌, ◌*◌, ◌/◌, ◌%◌, ◌<◌, ◌≤◌, List, [], ◌∷◌, ◌++◌, length, get_or}
 use Rattle.std.proofs.Common.{take, drop, refl, sym, ap, ◌∙◌, append_assoc, arith, inl, inr}
 use Rattle.std.specs.Int.Digits.{digits_of, number_from_digits, number_from_digits_after, AllBelowBase}
 use Rattle.std.proofs.lemmas.Int.Digits.{digits_of_step}
@@ -8,36 +8,39 @@ use Rattle.std.proofs.lemmas.Bool.{cases_lt}
 use Rattle.std.proofs.Math.Nat.{le-mul_of_pos_right}
 use Rattle.std.proofs.lemmas.List.{get_or-drop, get_or-take, get_or_past, length-take, append-nil}
 use Rattle.std.proofs.lemmas.List.{get_or_append_left, get_or-append-add}
+pub use Rattle.der_core.specs.Element.{AreOctets}
 
-abbrev pub IsOctets : List ℕ → Type 0
-IsOctets bytes = (i : ℕ) → get_or bytes i 0 < 256
+pub AreOctets-tail : (b : ℕ) (bytes : List ℕ) → AreOctets (b ∷ bytes) → AreOctets bytes
+AreOctets-tail b bytes h i = h (suc i)
 
-pub IsOctets-tail : (b : ℕ) (bytes : List ℕ) → IsOctets (b ∷ bytes) → IsOctets bytes
-IsOctets-tail b bytes h i = h (suc i)
+pub AreOctets-drop : (n : ℕ) (bytes : List ℕ) → AreOctets bytes → AreOctets (drop n bytes)
+AreOctets-drop n bytes h i = rw get_or-drop (h (n + i))
 
-pub IsOctets-drop : (n : ℕ) (bytes : List ℕ) → IsOctets bytes → IsOctets (drop n bytes)
-IsOctets-drop n bytes h i = rw get_or-drop (h (n + i))
-
-pub IsOctets-take : (n : ℕ) (bytes : List ℕ) → IsOctets bytes → IsOctets (take n bytes)
-IsOctets-take n bytes h i =
+pub AreOctets-take : (n : ℕ) (bytes : List ℕ) → AreOctets bytes → AreOctets (take n bytes)
+AreOctets-take n bytes h i =
     elim (cases_lt i n) [
       | inl lt ↦ rw (get_or-take n bytes i 0 lt) (h i)
       | inr le ↦ rw (get_or_past (take n bytes) i 0 (omega (arith, length-take n bytes))) (omega arith)
     ]
 
-pub IsOctets-left : (xs ys : List ℕ) → IsOctets (xs ++ ys) → IsOctets xs
-IsOctets-left xs ys h i =
+pub AreOctets-left : (xs ys : List ℕ) → AreOctets (xs ++ ys) → AreOctets xs
+AreOctets-left xs ys h i =
     elim (cases_lt i (length xs)) [
       | inl lt ↦ rw (← get_or_append_left xs ys 0 i lt) (h i)
       | inr le ↦ rw (get_or_past xs i 0 le) (omega arith)
     ]
 
-pub IsOctets-right : (xs ys : List ℕ) → IsOctets (xs ++ ys) → IsOctets ys
-IsOctets-right xs ys h i = rw (← get_or-append-add xs ys i 0) (h (length xs + i))
+pub AreOctets-right : (xs ys : List ℕ) → AreOctets (xs ++ ys) → AreOctets ys
+AreOctets-right xs ys h i = rw (← get_or-append-add xs ys i 0) (h (length xs + i))
 
-pub below_base : (ds : List ℕ) → IsOctets ds → AllBelowBase 256 ds
+pub below_base : (ds : List ℕ) → AreOctets ds → AllBelowBase 256 ds
 below_base [] h = tt
-below_base (d ∷ ds) h = (h 0, below_base ds (IsOctets-tail d ds h))
+below_base (d ∷ ds) h = (h 0, below_base ds (AreOctets-tail d ds h))
+
+pub octets_from : (octets : List ℕ) → AllBelowBase 256 octets → AreOctets octets
+octets_from [] below i = omega arith
+octets_from (o ∷ os) below zero = below.0
+octets_from (o ∷ os) below (suc i) = octets_from os below.1 i
 
 bigger : (b n : ℕ) → 2 ≤ b → n ≤ n * b
 bigger b n base = le-mul_of_pos_right n (omega arith)

@@ -10,8 +10,8 @@ use Rattle.std.proofs.Math.Nat.{pow-le-pow_right}
 use Rattle.der_core.specs.declared.fault.DerFault.{DerFault}
 use Rattle.der_core.specs.declared.fault.DerFault.TheVariants.{Short, Malformed}
 use Rattle.der_core.specs.Element.{length_octets, enc, IsElement}
-use Rattle.der_core.specs.Reading.{◌>>=◌, Front, long_length_at, length_at, contents_at, element_at}
-use Rattle.der_core.proofs.Digits.{IsOctets, IsOctets-tail, IsOctets-take, below_base, digits_of-number}
+use Rattle.der_core.specs.Reading.{◌>>=◌, FirstElement, long_length_at, length_at, contents_at, element_at}
+use Rattle.der_core.proofs.Digits.{AreOctets, AreOctets-tail, AreOctets-take, below_base, digits_of-number}
 
 -- a test that did not fail
 pub guard : {A : Type 0} (b : Bool) (d : DerFault) (x : Result A DerFault) (y : A) → cond b (Err d) x ≡ Ok y
@@ -53,7 +53,7 @@ long_again (d ∷ ds) rest h =
     and_false true = refl
     and_false false = refl
 
-long_takes : (k : ℕ) (bytes : List ℕ) (n : ℕ) (rest : List ℕ) → 0 < k → k ≤ 4 → IsOctets bytes
+long_takes : (k : ℕ) (bytes : List ℕ) (n : ℕ) (rest : List ℕ) → 0 < k → k ≤ 4 → AreOctets bytes
     → long_length_at k bytes ≡ Ok (n, rest)
     → (n < 2 ^ 32) × (128 ≤ n) × (length (digits_of 256 n) ≡ k) × (bytes ≡ digits_of 256 n ++ rest)
 unfolding long_length_at
@@ -74,7 +74,7 @@ long_takes k (d ∷ ds) n rest pos small octets e =
     let first : get_or (take k (d ∷ ds)) 0 1 ≡ d = get_or-take k (d ∷ ds) 0 1 pos in
     let nonzero = eqb-false d 0 tests.0 in
     let d-pos : 0 < d = elim (cases_lt 0 d) [ inl lt ↦ lt | inr le ↦ absurd (nonzero (omega arith)) ] in
-    let below = below_base (take k (d ∷ ds)) (IsOctets-take k (d ∷ ds) octets) in
+    let below = below_base (take k (d ∷ ds)) (AreOctets-take k (d ∷ ds) octets) in
     let digits : digits_of 256 n ≡ take k (d ∷ ds) =
     rw (← n-is) (digits_of-number 256 (take k (d ∷ ds)) (omega arith) (omega (arith, first, d-pos)) below) in
     let bound : n < 256 ^ k =
@@ -107,7 +107,7 @@ long_takes k (d ∷ ds) n rest pos small octets e =
 
 -- ---- lengths
 
-pub length_takes : (bytes : List ℕ) (n : ℕ) (rest : List ℕ) → IsOctets bytes → length_at bytes ≡ Ok (n, rest)
+pub length_takes : (bytes : List ℕ) (n : ℕ) (rest : List ℕ) → AreOctets bytes → length_at bytes ≡ Ok (n, rest)
     → (n < 2 ^ 32) × (bytes ≡ length_octets n ++ rest)
 unfolding length_at length_octets
 length_takes [] n rest octets e = absurd cc
@@ -125,7 +125,7 @@ length_takes (b ∷ bs) n rest octets e = elim (cases_lt b 128) [
       let other = eqb-false b 128 tests.0 in
       let high : 128 < b = elim (cases_lt 128 b) [ inl lt ↦ lt | inr le' ↦ absurd (other (omega arith)) ] in
       let low : b ≤ 132 = ltb-false 132 b tests.1 in
-      let t = long_takes (b - 128) bs n rest (omega arith) (omega arith) (IsOctets-tail b bs octets) g.1 in
+      let t = long_takes (b - 128) bs n rest (omega arith) (omega arith) (AreOctets-tail b bs octets) g.1 in
       let b-is : b ≡ 128 + length (digits_of 256 n) = omega (arith, t.2) in
       (t.0, rw (le-ltb n 128 t.1, ← b-is) (ap (λ (x : List ℕ). b ∷ x) t.3))
 ]
@@ -165,20 +165,20 @@ length_again n rest small = elim (cases_lt n 128) [
 
 -- ---- elements
 
-pub element_takes : (bytes : List ℕ) (x : Front) → IsOctets bytes → element_at bytes ≡ Ok x
+pub element_takes : (bytes : List ℕ) (x : FirstElement) → AreOctets bytes → element_at bytes ≡ Ok x
     → IsElement x.0 x.1.0 × (bytes ≡ enc x.0 x.1.0 ++ x.1.1)
 unfolding element_at contents_at enc
 element_takes [] x octets e = absurd cc
 element_takes (tag ∷ bytes) x octets e =
     let g = guard (eqb (tag % 32) 31) Malformed (length_at bytes >>= contents_at tag) x e in
     let n = bind_ok (length_at bytes) (contents_at tag) x g.1 in
-    let t = length_takes bytes n.0.0 n.0.1 (IsOctets-tail tag bytes octets) n.1 in
+    let t = length_takes bytes n.0.0 n.0.1 (AreOctets-tail tag bytes octets) n.1 in
     let h = guard (ltb (length n.0.1) n.0.0) Short (Ok (tag, (take n.0.0 n.0.1, drop n.0.0 n.0.1))) x n.2 in
     let long : n.0.0 ≤ length n.0.1 = ltb-false _ _ h.0 in
     let len : length (take n.0.0 n.0.1) ≡ n.0.0 = omega (arith, length-take n.0.0 n.0.1) in
     let ne = eqb-false (tag % 32) 31 g.0 in
     let bits : tag % 32 < 31 = elim (cases_lt (tag % 32) 31) [ inl lt ↦ lt | inr le ↦ absurd (ne (omega arith)) ] in
-    let made : Front = (tag, (take n.0.0 n.0.1, drop n.0.0 n.0.1)) in
+    let made : FirstElement = (tag, (take n.0.0 n.0.1, drop n.0.0 n.0.1)) in
     let whole : tag ∷ bytes ≡
     (tag ∷ (length_octets (length (take n.0.0 n.0.1)) ++ take n.0.0 n.0.1)) ++ drop n.0.0 n.0.1
     = ap (λ (y : List ℕ). tag ∷ y)
@@ -187,7 +187,7 @@ element_takes (tag ∷ bytes) x octets e =
       append_assoc (length_octets n.0.0) (take n.0.0 n.0.1) (drop n.0.0 n.0.1),
       take-append-drop n.0.0 n.0.1,
     ) refl) in
-    subst (λ (y : Front). IsElement y.0 y.1.0
+    subst (λ (y : FirstElement). IsElement y.0 y.1.0
     × (tag ∷ bytes ≡ (y.0 ∷ (length_octets (length y.1.0) ++ y.1.0)) ++ y.1.1)) (ok_is {E = DerFault} made x h.1)
     (record { octet = octets 0; low_bits = bits; fits = omega (arith, t.0, len) }, whole)
 

@@ -10,9 +10,9 @@ use Rattle.std.proofs.lemmas.List.{length-append, length-replicate, append-nil, 
 use Rattle.der_core.specs.declared.fault.DerFault.{DerFault}
 use Rattle.der_core.specs.declared.fault.DerFault.TheVariants.{Short, Malformed}
 use Rattle.der_core.specs.Element.{length_octets, enc, IsElement, HasElement, BeginsElement}
-use Rattle.der_core.specs.Reading.{◌>>=◌, Front, long_length_at, length_at, contents_at, element_at}
+use Rattle.der_core.specs.Reading.{◌>>=◌, FirstElement, long_length_at, length_at, contents_at, element_at}
 use Rattle.der_core.specs.Tlv.{IsFault}
-use Rattle.der_core.proofs.Digits.{IsOctets, IsOctets-tail}
+use Rattle.der_core.proofs.Digits.{AreOctets, AreOctets-tail}
 use Rattle.der_core.proofs.Element.{element_takes, element_again, length_takes, length_again}
 
 pub no_element : (bytes : List ℕ) (e : DerFault) → element_at bytes ≡ Err e → HasElement bytes → ⊥
@@ -54,7 +54,7 @@ element_malformed (tag ∷ bytes) more e = elim (cases_Bool (eqb (tag % 32) 31))
   | inr isnt ↦ rw isnt (rw (length_malformed bytes more (first (length_at bytes) (rw isnt at e))) refl)
 ]
   where
-    late : (x : Front) (b : Bool) → cond b (Err Short) (Ok x) ≡ Err Malformed → ⊥
+    late : (x : FirstElement) (b : Bool) → cond b (Err Short) (Ok x) ≡ Err Malformed → ⊥
     late x true e = cc
     late x false e = cc
 
@@ -64,18 +64,18 @@ element_malformed (tag ∷ bytes) more e = elim (cases_Bool (eqb (tag % 32) 31))
 
 -- ---- what is short can go on to be an element
 
-pub octets_append : (xs ys : List ℕ) → IsOctets xs → IsOctets ys → IsOctets (xs ++ ys)
+pub octets_append : (xs ys : List ℕ) → AreOctets xs → AreOctets ys → AreOctets (xs ++ ys)
 octets_append [] ys h g i = g i
 octets_append (x ∷ xs) ys h g zero = h 0
-octets_append (x ∷ xs) ys h g (suc i) = octets_append xs ys (IsOctets-tail x xs h) g i
+octets_append (x ∷ xs) ys h g (suc i) = octets_append xs ys (AreOctets-tail x xs h) g i
 
-octets_zeros : (n : ℕ) → IsOctets (replicate n 0)
+octets_zeros : (n : ℕ) → AreOctets (replicate n 0)
 octets_zeros zero i = omega arith
 octets_zeros (suc n) zero = omega arith
 octets_zeros (suc n) (suc i) = octets_zeros n i
 
 abbrev pub GoesOn : {X : Type 0} → (List ℕ → Result X DerFault) → List ℕ → Type 0
-GoesOn {X} read bytes = (more : List ℕ) × (x : X) × IsOctets more × (read (bytes ++ more) ≡ Ok x)
+GoesOn {X} read bytes = (more : List ℕ) × (x : X) × AreOctets more × (read (bytes ++ more) ≡ Ok x)
 
 long_short : (k : ℕ) (bytes : List ℕ) → 0 < k → long_length_at k bytes ≡ Err Short → GoesOn (long_length_at k) bytes
 unfolding long_length_at
@@ -92,7 +92,7 @@ long_short k [] pos e =
     and_right true = refl
     and_right false = refl
 
-    one : IsOctets (128 ∷ [])
+    one : AreOctets (128 ∷ [])
     one zero = omega arith
     one (suc i) = omega arith
 long_short k (d ∷ ds) pos e = elim (cases_Bool (eqb d 0 || (eqb k 1 && ltb d 128))) [
@@ -132,14 +132,14 @@ length_short (b ∷ bs) e = elim (cases_Bool (ltb b 128)) [
   ]
 ]
 
-length_extends : (bytes more : List ℕ) (n : ℕ) (rest : List ℕ) → IsOctets bytes
+length_extends : (bytes more : List ℕ) (n : ℕ) (rest : List ℕ) → AreOctets bytes
     → length_at bytes ≡ Ok (n, rest) → length_at (bytes ++ more) ≡ Ok (n, rest ++ more)
 length_extends bytes more n rest octets e =
     let t = length_takes bytes n rest octets e in
     rw (t.1, append_assoc (length_octets n) rest more) (length_again n (rest ++ more) t.0)
 
 element_goes : (tag : ℕ) (bytes more : List ℕ) (n : ℕ) (rest : List ℕ) → eqb (tag % 32) 31 ≡ false
-    → IsOctets bytes → IsOctets more → length_at (bytes ++ more) ≡ Ok (n, rest) → GoesOn element_at (tag ∷ bytes)
+    → AreOctets bytes → AreOctets more → length_at (bytes ++ more) ≡ Ok (n, rest) → GoesOn element_at (tag ∷ bytes)
 unfolding element_at contents_at
 element_goes tag bytes more n rest isnt octets octets' e =
     let long : ltb (length (rest ++ replicate n 0)) n ≡ false =
@@ -159,23 +159,23 @@ length_none : length_at (0 ∷ []) ≡ Ok (0, [])
 unfolding length_at
 length_none = refl
 
-element_short_goes : (bytes : List ℕ) → IsOctets bytes → element_at bytes ≡ Err Short → GoesOn element_at bytes
+element_short_goes : (bytes : List ℕ) → AreOctets bytes → element_at bytes ≡ Err Short → GoesOn element_at bytes
 unfolding element_at contents_at
 element_short_goes [] octets e = (0 ∷ 0 ∷ [], (0, ([], [])), octets_zeros 2, rw length_none refl)
 element_short_goes (tag ∷ bytes) octets e = elim (cases_Bool (eqb (tag % 32) 31)) [
-  | inl is ↦ let wrong : ◌≡◌ {A = Result Front DerFault} (Err Malformed) (Err Short) = rw is at e in absurd cc
+  | inl is ↦ let wrong : ◌≡◌ {A = Result FirstElement DerFault} (Err Malformed) (Err Short) = rw is at e in absurd cc
   | inr isnt ↦ by_length (length_at bytes) refl isnt (rw isnt at e)
 ]
   where
     by_length : (r : Result (ℕ × List ℕ) DerFault) → length_at bytes ≡ r → eqb (tag % 32) 31 ≡ false
         → (r >>= contents_at tag) ≡ Err Short → GoesOn element_at (tag ∷ bytes)
     by_length (Ok n) was isnt e =
-        element_goes tag bytes [] n.0 n.1 isnt (IsOctets-tail tag bytes octets) (octets_zeros 0)
+        element_goes tag bytes [] n.0 n.1 isnt (AreOctets-tail tag bytes octets) (octets_zeros 0)
         (rw (append-nil bytes) was)
     by_length (Err Malformed) was isnt e = absurd cc
     by_length (Err Short) was isnt e =
         let g = length_short bytes was in
-        element_goes tag bytes g.0 g.1.0 g.1.1 isnt (IsOctets-tail tag bytes octets) g.2 g.3
+        element_goes tag bytes g.0 g.1.0 g.1.1 isnt (AreOctets-tail tag bytes octets) g.2 g.3
 
 -- an element at the front of what goes on stands in the octets, or goes past their end
 cut_short : (bytes more text rest : List ℕ) → bytes ++ more ≡ text ++ rest → (length text ≤ length bytes → ⊥)
@@ -196,7 +196,7 @@ stands_whole (b ∷ bs) more (t ∷ ts) rest e le =
     let same : b ≡ t = cc in
     rw same (ap (λ (x : List ℕ). t ∷ x) (stands_whole bs more ts rest (cc) (omega arith)))
 
-pub is_fault : (bytes : List ℕ) (fault : DerFault) → IsOctets bytes → element_at bytes ≡ Err fault
+pub is_fault : (bytes : List ℕ) (fault : DerFault) → AreOctets bytes → element_at bytes ≡ Err fault
     → IsFault fault bytes
 is_fault bytes Malformed octets e = (no_element bytes Malformed e, λ begun. malformed begun)
   where
@@ -217,13 +217,13 @@ is_fault bytes Short octets e =
 abbrev pub Lent : Type 0
 Lent = ℕ × Bor (List ℕ) × Bor (List ℕ)
 
-pub is_found : (bytes : List ℕ) (r : Result Lent DerFault) → IsOctets bytes
+pub is_found : (bytes : List ℕ) (r : Result Lent DerFault) → AreOctets bytes
     → MatchResult r (λ x. element_at bytes ≡ Ok (x.0, (x.1.now, x.2.now))) (λ e. element_at bytes ≡ Err e)
     → IfOk r (λ x. IsElement x.0 x.1.now × (bytes ≡ enc x.0 x.1.now ++ x.2.now))
 is_found bytes (Ok x) octets e = element_takes bytes (x.0, (x.1.now, x.2.now)) octets e
 is_found bytes (Err f) octets e = tt
 
-pub is_refused : (bytes : List ℕ) (r : Result Lent DerFault) → IsOctets bytes
+pub is_refused : (bytes : List ℕ) (r : Result Lent DerFault) → AreOctets bytes
     → MatchResult r (λ x. element_at bytes ≡ Ok (x.0, (x.1.now, x.2.now))) (λ e. element_at bytes ≡ Err e)
     → IfErr r (λ fault. IsFault fault bytes)
 is_refused bytes (Ok x) octets e = tt

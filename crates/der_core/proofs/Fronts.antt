@@ -13,7 +13,7 @@ use Rattle.der_core.specs.Reading.{◌>>?◌, ◌>>=◌, length_at, long_length_
 use Rattle.der_core.specs.Reading.{tagged_of}
 use Rattle.der_core.specs.Shapes.{Front, Whole, element}
 use Rattle.der_core.specs.Shapes.{IsFront, IsWhole}
-use Rattle.der_core.proofs.Digits.{IsOctets, IsOctets-left, IsOctets-right}
+use Rattle.der_core.proofs.Digits.{AreOctets, AreOctets-left, AreOctets-right}
 use Rattle.std.proofs.Common.{◌-◌, take, drop}
 use Rattle.std.specs.Int.Digits.{number_from_digits}
 use Rattle.std.proofs.lemmas.List.{length-drop}
@@ -30,7 +30,7 @@ front_take bytes x e = by_case (element_at bytes) e
     by_case (Ok y) e = ap (λ (z : ℕ × (List ℕ × List ℕ)). Ok z) (some_is y x e)
     by_case (Err f) e = absurd cc
 
-pub tagged_takes : (tag : ℕ) (bytes : List ℕ) (x : List ℕ × List ℕ) → IsOctets bytes
+pub tagged_takes : (tag : ℕ) (bytes : List ℕ) (x : List ℕ × List ℕ) → AreOctets bytes
     → tagged_of tag bytes ≡ Some x → IsElement tag x.0 × (bytes ≡ enc tag x.0 ++ x.1)
 unfolding tagged_of
 tagged_takes tag bytes x octets e =
@@ -58,13 +58,13 @@ tagged_again tag contents rest h =
       eq-eqb tag tag refl,
     ) refl
 
-contents_octets : (tag : ℕ) (contents rest bytes : List ℕ) → IsOctets bytes → bytes ≡ enc tag contents ++ rest
-    → IsOctets contents
+pub contents_octets : (tag : ℕ) (contents rest bytes : List ℕ) → AreOctets bytes → bytes ≡ enc tag contents ++ rest
+    → AreOctets contents
 unfolding enc
 contents_octets tag contents rest bytes octets e =
-    let whole : IsOctets ((tag ∷ (length_octets (length contents) ++ contents)) ++ rest) = subst IsOctets e octets in
-    IsOctets-right (tag ∷ length_octets (length contents)) contents
-    (IsOctets-left (tag ∷ (length_octets (length contents) ++ contents)) rest whole)
+    let whole : AreOctets ((tag ∷ (length_octets (length contents) ++ contents)) ++ rest) = subst AreOctets e octets in
+    AreOctets-right (tag ∷ length_octets (length contents)) contents
+    (AreOctets-left (tag ∷ (length_octets (length contents) ++ contents)) rest whole)
 
 long_falls : (k : ℕ) (bytes : List ℕ) (n : ℕ × List ℕ) → long_length_at k bytes ≡ Ok n → length n.1 ≤ length bytes
 unfolding long_length_at

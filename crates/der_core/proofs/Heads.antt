@@ -1,36 +1,18 @@
 -- Octets that declare no length: what begins with tag 30 (hex) so far, and what does not.
-use Rattle.std.proofs.Common.{◌≡◌, ℕ, suc, ◌-◌, ◌<◌, ◌≤◌, ◌≢◌, ◌+◌, eqb, ltb, ◌&&◌, ◌||◌, List, [], ◌∷◌, ◌++◌, length, Result, Ok, Err, refl, sym, ap, subst, ◌∙◌, arith, inl, inr}
-use Rattle.std.proofs.lemmas.Bool.{cases_Bool, eqb-true, eqb-false, ltb-true, ltb-false, or_parts}
-use Rattle.std.proofs.lemmas.List.{length-append}
+use Rattle.std.proofs.Common.{◌≡◌, ℕ, suc, ◌-◌, ◌%◌, ◌<◌, ◌≤◌, ◌≢◌, eqb, ltb, ◌&&◌, ◌||◌, List, [], ◌∷◌, ◌++◌, length, Result, Ok, Err, refl, sym, subst, ◌∙◌, arith, inl, inr}
+use Rattle.std.proofs.lemmas.Bool.{cases_Bool, ltb-true, ltb-false, or_parts}
 use Rattle.der_core.specs.declared.fault.DerFault.{DerFault}
 use Rattle.der_core.specs.declared.fault.DerFault.TheVariants.{Short, Malformed}
 use Rattle.der_core.specs.Element.{length_octets}
-use Rattle.der_core.specs.Reading.{length_at, long_length_at}
+use Rattle.der_core.specs.Reading.{◌>>=◌, length_at, long_length_at}
 use Rattle.der_core.specs.Items.{BeginsSequence}
 use Rattle.der_core.specs.Progress.{Declares}
-use Rattle.der_core.specs.Splitter.{IsHeadFault, size_at}
-use Rattle.der_core.proofs.Digits.{IsOctets, IsOctets-tail}
-use Rattle.der_core.proofs.Element.{length_takes, length_again}
-use Rattle.der_core.proofs.Faults.{length_malformed, length_short, octets_append}
-use Rattle.der_core.proofs.Sequences.{begins_front, begins_from_declares, declares_begun}
-
--- octets that a length can follow
-pub declares_read : (octets : List ℕ) (size : ℕ) (contents : List ℕ) → IsOctets octets
-    → length_at octets ≡ Ok (size, contents) → Declares (48 ∷ octets) size
-declares_read octets size contents are e =
-    let t = length_takes octets size contents are e in record
-    { fits = t.0; contents = contents; text = ap (λ (x : List ℕ). 48 ∷ x) t.1 }
-
-tail_of : (xs ys : List ℕ) → 48 ∷ xs ≡ 48 ∷ ys → xs ≡ ys
-tail_of xs ys e = cc
+use Rattle.der_core.specs.Splitter.{IsFirstTag, IsHeadFault}
+use Rattle.der_core.specs.Head.{BeginsWith, IsNoHead, head_at}
+use Rattle.der_core.proofs.Sequences.{a_head, begins_front, begins_from_declares, declares_begun}
 
 not_fault : (x : ℕ × List ℕ) (f : DerFault) → ◌≡◌ {A = Result (ℕ × List ℕ) DerFault} (Ok x) (Err f) → ⊥
 not_fault x f e = cc
-
-reads_declared : (octets : List ℕ) (size : ℕ) (d : Declares (48 ∷ octets) size)
-    → length_at octets ≡ Ok (size, d.contents)
-reads_declared octets size d = ap length_at (tail_of octets (length_octets size ++ d.contents) d.text)
-    ∙ length_again size d.contents d.fits
 
 -- digits of a length that are not all there are three at most
 long_short_length : (k : ℕ) (octets : List ℕ) → k ≤ 4 → long_length_at k octets ≡ Err Short → length octets < 4
@@ -61,60 +43,59 @@ short_length (b ∷ bs) e = elim (cases_Bool (ltb b 128)) [
   ]
 ]
 
+-- a head that is not all there has five octets at most
+short_head : (octets : List ℕ) → head_at octets ≡ Err Short → length octets < 6
+unfolding head_at
+short_head [] e = omega arith
+short_head (tag ∷ octets) e = elim (cases_Bool (eqb (tag % 32) 31)) [
+  | inl is ↦ let wrong : ◌≡◌ {A = Result (ℕ × (ℕ × List ℕ)) DerFault} (Err Malformed) (Err Short) =
+      rw is at e in absurd cc
+  | inr isnt ↦ omega (arith, short_length octets (first (length_at octets) (rw isnt at e)))
+]
+  where
+    first : (r : Result (ℕ × List ℕ) DerFault)
+        → ◌≡◌ {A = Result (ℕ × (ℕ × List ℕ)) DerFault} (r >>= λ n. Ok (tag, n)) (Err Short) → r ≡ Err Short
+    first (Ok n) e = absurd cc
+    first (Err f) e = cc
+
 pub no_octets : IsHeadFault Short []
 unfolding length_octets
 no_octets =
-    let declares : Declares (48 ∷ 0 ∷ []) 0 = record { fits = omega arith; contents = []; text = refl } in (
-      begins_front [] (48 ∷ 0 ∷ []) (begins_from_declares (48 ∷ 0 ∷ []) 0 declares),
+    let declares : Declares (0x30 ∷ 0 ∷ []) 0 = record { head = a_head 0 (omega arith); rest = []; text = refl } in (
+      begins_front [] (0x30 ∷ 0 ∷ []) (begins_from_declares (0x30 ∷ 0 ∷ []) 0 declares),
       omega arith,
       λ size d. let t = d.text in cc,
     )
 
-pub other_tag : (tag : ℕ) (octets : List ℕ) → tag ≢ 48 → BeginsSequence (tag ∷ octets) → ⊥
+pub other_tag : (tag : ℕ) (octets : List ℕ) → tag ≢ 0x30 → BeginsSequence (tag ∷ octets) → ⊥
 other_tag tag octets other b = let t = (declares_begun (tag ∷ octets) b).text in other (cc)
 
-pub head_fault : (fault : DerFault) (octets : List ℕ) → IsOctets octets → length_at octets ≡ Err fault
-    → IsHeadFault fault (48 ∷ octets)
-head_fault Malformed octets are e = λ b.
-    let d = declares_begun (48 ∷ octets) b in
-    not_fault _ Malformed (sym (reads_declared (octets ++ b.more) _ d) ∙ length_malformed octets b.more e)
-head_fault Short octets are e =
-    let g = length_short octets e in
-    let d = declares_read (octets ++ g.0) g.1.0 g.1.1 (octets_append octets g.0 are g.2) g.3 in (
-      begins_front (48 ∷ octets) g.0 (begins_from_declares (48 ∷ (octets ++ g.0)) g.1.0 d),
-      omega (arith, short_length octets e),
-      λ size d. not_fault _ Short (sym (reads_declared octets size d) ∙ e),
+-- a head has the tag that stands first
+tag_is : (tag : ℕ) (octets : List ℕ) (tag' size : ℕ) → BeginsWith (tag ∷ octets) tag' size → tag ≡ tag'
+tag_is tag octets tag' size b = let t = b.text in cc
+
+declares_from : (octets : List ℕ) (tag size : ℕ) → IsFirstTag 0x30 octets → BeginsWith octets tag size
+    → Declares octets size
+declares_from [] tag size first b = let t = b.text in absurd cc
+declares_from (o ∷ os) tag size first b =
+    let same : tag ≡ 0x30 = sym (tag_is o os tag size b) ∙ first (omega arith) in
+    subst (λ (t : ℕ). BeginsWith (o ∷ os) t size) same b
+
+-- octets that another tag begins
+pub sequence_other : (octets : List ℕ) → (IsFirstTag 0x30 octets → ⊥) → IsHeadFault Malformed octets
+sequence_other [] other = absurd (other (λ some. absurd (omega (arith, some))))
+sequence_other (o ∷ os) other = other_tag o os (λ is. other (λ some. is))
+
+pub sequence_fault : (octets : List ℕ) (fault : DerFault) → IsFirstTag 0x30 octets → IsNoHead fault octets
+    → head_at octets ≡ Err fault → IsHeadFault fault octets
+sequence_fault octets Malformed first none e = λ b.
+    none b.more (0x30, length b.whole.sequence.contents, declares_begun octets b)
+sequence_fault [] Short first none e = no_octets
+sequence_fault (o ∷ os) Short first none e =
+    let more = none.1 in
+    let d : Declares (o ∷ (os ++ more.0)) more.1.1 =
+    declares_from (o ∷ (os ++ more.0)) more.1.0 more.1.1 (λ some. first (omega arith)) more.1.2 in (
+      begins_front (o ∷ os) more.0 (begins_from_declares (o ∷ (os ++ more.0)) more.1.1 d),
+      short_head (o ∷ os) e,
+      λ size d'. none.0 (0x30, size, d'),
     )
-
--- ---- what is read of octets
-
-pub size_found : (octets : List ℕ) (size : ℕ) (contents : List ℕ) → IsOctets octets
-    → size_at octets ≡ Ok (size, contents)
-    → (d : Declares octets size) × (length octets ≡ 1 + length (length_octets size) + length contents)
-unfolding size_at
-size_found [] size contents are e = absurd cc
-size_found (tag ∷ octets) size contents are e = elim (cases_Bool (eqb tag 48)) [
-  | inl is ↦
-      let t = length_takes octets size contents (IsOctets-tail tag octets are) (rw is at e) in
-      let tag-is : tag ≡ 48 = eqb-true tag 48 is in (
-        record { fits = t.0; contents = contents; text = rw (tag-is, t.1) refl },
-        omega (arith, ap length t.1, length-append (length_octets size) contents),
-      )
-  | inr isnt ↦ let wrong : ◌≡◌ {A = Result (ℕ × List ℕ) DerFault} (Err Malformed) (Ok (size, contents)) =
-      rw isnt at e in absurd cc
-]
-
-pub size_fault : (octets : List ℕ) (fault : DerFault) → IsOctets octets → size_at octets ≡ Err fault
-    → IsHeadFault fault octets
-unfolding size_at
-size_fault [] Short are e = no_octets
-size_fault [] Malformed are e = absurd cc
-size_fault (tag ∷ octets) fault are e = elim (cases_Bool (eqb tag 48)) [
-  | inl is ↦ rw (eqb-true tag 48 is) (head_fault fault octets (IsOctets-tail tag octets are) (rw is at e))
-  | inr isnt ↦
-      let same : Malformed ≡ fault = err_is (rw isnt at e) in
-      subst (λ (f : DerFault). IsHeadFault f (tag ∷ octets)) same (other_tag tag octets (eqb-false tag 48 isnt))
-]
-  where
-    err_is : {f g : DerFault} → ◌≡◌ {A = Result (ℕ × List ℕ) DerFault} (Err f) (Err g) → f ≡ g
-    err_is e = cc

@@ -9,10 +9,13 @@ use Rattle.std.proofs.lemmas.Grind.{pow_more}
 use Rattle.std.proofs.lemmas.Int.{ints}
 use Rattle.std.proofs.lemmas.Int.Digits.{number_after_lt, all_below_base_digits_of, first_digits_of}
 use Rattle.std.proofs.Math.Nat.{mul-le-mul_right}
-use Rattle.der_core.specs.Integer.{IsInteger, AreOctets, twos_complement, integer_contents, IsLeastSpelling}
+use Rattle.der_core.specs.Integer.{IsInteger, twos_complement, integer_contents, IsLeastSpelling}
 use Rattle.der_core.specs.Number.{not_negative, number_contents}
-use Rattle.der_core.proofs.Digits.{digits_of-number}
+use Rattle.der_core.proofs.Digits.{AreOctets, below_base, octets_from, digits_of-number}
 use Rattle.der_core.proofs.Theorems.{fewest}
+
+abbrev AllOctets : List ℕ → Type 0
+AllOctets octets = AllBelowBase 256 octets
 
 -- ---- every bit turned over
 
@@ -22,7 +25,7 @@ complement octets = map (λ octet. 255 - octet) octets
 power_more : (k : ℕ) → 256 ^ suc k ≡ 256 ^ k * 256
 power_more k = ap (λ (i : ℕ). 256 ^ i) (sym (add-one k)) ∙ pow_more 256 k
 
-complement_twice : (octets : List ℕ) → AreOctets octets → complement (complement octets) ≡ octets
+complement_twice : (octets : List ℕ) → AllOctets octets → complement (complement octets) ≡ octets
 complement_twice [] are = refl
 complement_twice (o ∷ os) are =
     let first : 255 - (255 - o) ≡ o = omega (arith, are.0) in
@@ -32,12 +35,12 @@ length-complement : (octets : List ℕ) → length (complement octets) ≡ lengt
 length-complement [] = refl
 length-complement (o ∷ os) = ap suc (length-complement os)
 
-complement_octets : (octets : List ℕ) → AreOctets (complement octets)
+complement_octets : (octets : List ℕ) → AllOctets (complement octets)
 complement_octets [] = tt
 complement_octets (o ∷ os) = (omega arith, complement_octets os)
 
 -- a number and the one of the bits turned over make all ones
-number_after_complement : (m n : ℕ) (octets : List ℕ) → AreOctets octets
+number_after_complement : (m n : ℕ) (octets : List ℕ) → AllOctets octets
     → number_from_digits_after 256 m (complement octets) + number_from_digits_after 256 n octets + 1
     ≡ (m + n + 1) * 256 ^ length octets
 number_after_complement m n [] are = omega arith
@@ -55,7 +58,7 @@ number_after_complement m n (o ∷ os) are =
         → (m * 256 + (255 - o) + (n * 256 + o) + 1) * power ≡ (m + n + 1) * power'
     regroup power power' p = rw (sum, p) (swap (m + n + 1) power)
 
-number_complement : (octets : List ℕ) → AreOctets octets
+number_complement : (octets : List ℕ) → AllOctets octets
     → number_from_digits 256 octets + number_from_digits 256 (complement octets) + 1 ≡ 256 ^ length octets
 number_complement octets are = omega (arith, number_after_complement 0 0 octets are)
 
@@ -68,12 +71,12 @@ not_below_zero octets low = rw (lt-ltb (get_or octets 0 0) 128 low) refl
 difference : (n m power : ℕ) → n + m + 1 ≡ power → pos n -ℤ pos power ≡ negsuc m
 difference n m power e = omega (arith, ints, e)
 
-below_zero : (octets : List ℕ) → AreOctets octets → 128 ≤ get_or octets 0 0
+below_zero : (octets : List ℕ) → AllOctets octets → 128 ≤ get_or octets 0 0
     → twos_complement octets ≡ negsuc (number_from_digits 256 (complement octets))
 below_zero octets are high =
     rw (le-ltb (get_or octets 0 0) 128 high) (difference _ _ _ (number_complement octets are))
 
-complement_low : (octets : List ℕ) → AreOctets octets → 128 ≤ get_or octets 0 0 → get_or (complement octets) 0 0 < 128
+complement_low : (octets : List ℕ) → AllOctets octets → 128 ≤ get_or octets 0 0 → get_or (complement octets) 0 0 < 128
 complement_low [] are high = omega arith
 complement_low (o ∷ os) are high = omega (arith, high)
 
@@ -81,7 +84,7 @@ complement_high : (octets : List ℕ) → 0 < length octets → get_or octets 0 
 complement_high [] some low = absurd (omega (arith, some))
 complement_high (o ∷ os) some low = omega (arith, low)
 
-complement_integer : (octets : List ℕ) → AreOctets octets → IsInteger octets → IsInteger (complement octets)
+complement_integer : (octets : List ℕ) → AllOctets octets → IsInteger octets → IsInteger (complement octets)
 complement_integer [] are h = absurd (omega (arith, h.some))
 complement_integer (o ∷ []) are h =
     record {
@@ -98,7 +101,7 @@ complement_integer (o ∷ (p ∷ os)) are h =
 
 -- ---- numbers that aren't below 0
 
-number_contents_octets : (n : ℕ) → AreOctets (number_contents n)
+number_contents_octets : (n : ℕ) → AllOctets (number_contents n)
 unfolding number_contents
 number_contents_octets n = padded (digits_of 256 n) (all_below_base_digits_of 256 n (omega arith))
   where
@@ -150,7 +153,7 @@ number_contents_integer n = padded (digits_of 256 n) (first n)
           })
     ]
 
-after_zero : (octets : List ℕ) → AreOctets octets → (0 < length octets → 128 ≤ get_or octets 0 0)
+after_zero : (octets : List ℕ) → AllOctets octets → (0 < length octets → 128 ≤ get_or octets 0 0)
     → number_contents (number_from_digits 256 (0 ∷ octets)) ≡ 0 ∷ octets
 unfolding number_contents
 after_zero [] are high = refl
@@ -158,7 +161,7 @@ after_zero (p ∷ os) are high =
     let high' : 128 ≤ p = high (omega arith) in
     rw (digits_of-number 256 (p ∷ os) (omega arith) (omega (arith, high')) are, le-ltb p 128 high') refl
 
-number_contents_again : (octets : List ℕ) → AreOctets octets → IsInteger octets → get_or octets 0 0 < 128
+number_contents_again : (octets : List ℕ) → AllOctets octets → IsInteger octets → get_or octets 0 0 < 128
     → number_contents (number_from_digits 256 octets) ≡ octets
 unfolding number_contents
 number_contents_again [] are h low = absurd (omega (arith, h.some))
@@ -174,7 +177,7 @@ number_contents_again (o ∷ os) are h low = elim (cases_eq o 0) [
 -- ---- numbers of either sign
 
 -- what is spelled by octets whose top bit is not set, and by others
-by_sign : (P : List ℕ → ℤ → Type 0) (octets : List ℕ) → AreOctets octets
+by_sign : (P : List ℕ → ℤ → Type 0) (octets : List ℕ) → AllOctets octets
     → (get_or octets 0 0 < 128 → P octets (pos (number_from_digits 256 octets)))
     → (128 ≤ get_or octets 0 0 → P octets (negsuc (number_from_digits 256 (complement octets))))
     → P octets (twos_complement octets)
@@ -184,7 +187,7 @@ by_sign P octets are low high = elim (cases_lt (get_or octets 0 0) 128) [
 ]
 
 -- octets that are an integer are the contents of their number
-pub integer_contents_again : (octets : List ℕ) → AreOctets octets → IsInteger octets
+pub integer_contents_again : (octets : List ℕ) → AllOctets octets → IsInteger octets
     → integer_contents (twos_complement octets) ≡ octets
 integer_contents_again octets are h =
     by_sign (λ os number. integer_contents number ≡ os) octets are
@@ -194,7 +197,7 @@ integer_contents_again octets are h =
     (complement_low octets are high)) ∙ complement_twice octets are)
 
 -- so many octets hold this number
-number_lt_low : (octets : List ℕ) → AreOctets octets → 0 < length octets → get_or octets 0 0 < 128
+number_lt_low : (octets : List ℕ) → AllOctets octets → 0 < length octets → get_or octets 0 0 < 128
     → number_from_digits 256 octets < 128 * 256 ^ (length octets - 1)
 number_lt_low [] are some low = absurd (omega (arith, some))
 number_lt_low (o ∷ os) are some low =
@@ -204,13 +207,13 @@ number_lt_low (o ∷ os) are some low =
     mul-le-mul_right (256 ^ length os) (omega (arith, low)) in
     rw one (omega (arith, bound, top))
 
-number_contents_least : (octets : List ℕ) → AreOctets octets → 0 < length octets → get_or octets 0 0 < 128
+number_contents_least : (octets : List ℕ) → AllOctets octets → 0 < length octets → get_or octets 0 0 < 128
     → length (number_contents (number_from_digits 256 octets)) ≤ length octets
 number_contents_least octets are some low = (fewest (number_from_digits 256 octets)).least (length octets) some
     (number_lt_low octets are some low)
 
 -- the contents of their number are no more than the octets
-integer_contents_least : (octets : List ℕ) → AreOctets octets → 0 < length octets
+integer_contents_least : (octets : List ℕ) → AllOctets octets → 0 < length octets
     → length (integer_contents (twos_complement octets)) ≤ length octets
 integer_contents_least octets are some =
     by_sign (λ os number. length (integer_contents number) ≤ length os) octets are
@@ -225,7 +228,7 @@ integer_contents_least octets are some =
 
 -- the contents of a number are octets, an integer, and spell it
 pub record AreContents (octets : List ℕ) (number : ℤ) : Type 0 where
-  pub are : AreOctets octets
+  pub are : AllOctets octets
   pub integer : IsInteger octets
   pub spells : twos_complement octets ≡ number
 
@@ -253,17 +256,19 @@ integer_contents_spell (negsuc n) =
 pub one_text : (number : ℤ) (octets : List ℕ)
     → (AreOctets octets × IsInteger octets × (twos_complement octets ≡ number)) ↔ (octets ≡ integer_contents number)
 one_text number octets = (
-  (λ h. sym (integer_contents_again octets h.0 h.1) ∙ ap integer_contents h.2),
-  (λ is. let h = integer_contents_spell number in rw is (h.are, h.integer, h.spells)),
+  (λ h. sym (integer_contents_again octets (below_base octets h.0) h.1) ∙ ap integer_contents h.2),
+  (λ is. let h = integer_contents_spell number in
+      rw is (octets_from (integer_contents number) h.are, h.integer, h.spells)),
 )
 
-least_spelling : (octets : List ℕ) → AreOctets octets → IsInteger octets
+least_spelling : (octets : List ℕ) → AllOctets octets → IsInteger octets
     → IsLeastSpelling (twos_complement octets) octets
 least_spelling octets are h = record {
-  octets = are;
+  octets = octets_from octets are;
   some = h.some;
   spells = refl;
-  least = λ others are' some' same.
+  least = λ others others_are some' same.
+      let are' = below_base others others_are in
       let mine : length (integer_contents (twos_complement octets)) ≡ length octets =
       ap length (integer_contents_again octets are h) in
       let theirs =
@@ -276,12 +281,12 @@ least_spelling octets are h = record {
 tail_not_below : (p : ℕ) (os : List ℕ) → p < 128 → twos_complement (p ∷ os) ≡ twos_complement (0 ∷ (p ∷ os))
 tail_not_below p os low = not_below_zero (p ∷ os) low ∙ sym (not_below_zero (0 ∷ (p ∷ os)) (omega arith))
 
-tail_below : (p : ℕ) (os : List ℕ) → AreOctets (p ∷ os) → 128 ≤ p
+tail_below : (p : ℕ) (os : List ℕ) → AllOctets (p ∷ os) → 128 ≤ p
     → twos_complement (p ∷ os) ≡ twos_complement (255 ∷ (p ∷ os))
 tail_below p os are high = below_zero (p ∷ os) are high
     ∙ sym (below_zero (255 ∷ (p ∷ os)) (omega arith, are) (omega arith))
 
-least_integer : (octets : List ℕ) → AreOctets octets → IsLeastSpelling (twos_complement octets) octets
+least_integer : (octets : List ℕ) → AllOctets octets → IsLeastSpelling (twos_complement octets) octets
     → IsInteger octets
 least_integer [] are h = absurd (omega (arith, h.some))
 least_integer (o ∷ []) are h =
@@ -296,7 +301,7 @@ least_integer (o ∷ (p ∷ os)) are h = record {
     | inr le ↦ le
     | inl lt ↦ absurd (omega (
       arith,
-      h.least (p ∷ os) are.1 (omega arith)
+      h.least (p ∷ os) (octets_from (p ∷ os) are.1) (omega arith)
           (tail_not_below p os lt ∙ ap (λ (z : ℕ). twos_complement (z ∷ (p ∷ os))) (sym zero)),
     ))
   ];
@@ -304,7 +309,7 @@ least_integer (o ∷ (p ∷ os)) are h = record {
     | inl lt ↦ lt
     | inr le ↦ absurd (omega (
       arith,
-      h.least (p ∷ os) are.1 (omega arith)
+      h.least (p ∷ os) (octets_from (p ∷ os) are.1) (omega arith)
           (tail_below p os are.1 le ∙ ap (λ (z : ℕ). twos_complement (z ∷ (p ∷ os))) (sym ones)),
     ))
   ];
@@ -312,4 +317,5 @@ least_integer (o ∷ (p ∷ os)) are h = record {
 
 pub fewest_octets : (octets : List ℕ) → AreOctets octets
     → IsInteger octets ↔ IsLeastSpelling (twos_complement octets) octets
-fewest_octets octets are = (least_spelling octets are, least_integer octets are)
+fewest_octets octets are =
+    let below = below_base octets are in (least_spelling octets below, least_integer octets below)

@@ -8,12 +8,15 @@ pub mod Fronts
 pub mod Listed
 pub mod Lengths
 pub mod Shapes
+pub mod Components
 pub mod Lists
 pub mod Theorems
 pub mod Times
+pub mod TimeValues
 pub mod Leaves
 pub mod Integers
 pub mod Sequences
+pub mod HeadLemmas
 pub mod Heads
 pub mod Steps
 pub mod Streams

@@ -8,7 +8,7 @@ use Rattle.std.proofs.lemmas.Option.{none-some}
 use Rattle.der_core.specs.Reading.{◌>>?◌}
 use Rattle.der_core.specs.Shapes.{Front}
 use Rattle.der_core.specs.Shapes.{listed_within, listed, IsFront, IsWhole}
-use Rattle.der_core.proofs.Digits.{IsOctets, IsOctets-right}
+use Rattle.der_core.proofs.Digits.{AreOctets, AreOctets-right}
 use Rattle.der_core.proofs.Numbers.{some_bind, some_is}
 
 listed_turns : {V : Type 0} (front : Front V)
@@ -70,8 +70,8 @@ pub listed-whole : {V : Type 0} {text : V → List ℕ} {IsValid : V → Type 0}
 listed-whole {V} {text} {IsValid} {read} some falls laws =
     record { takes = λ bytes vs octets e. takes (length bytes) bytes vs (omega arith) octets e; again = again }
   where
-    step : (b : ℕ) (bs : List ℕ) (vs : List V) → IsOctets (b ∷ bs) → listed read (b ∷ bs) ≡ Some vs
-        → ((x : V × List ℕ) (ws : List V) → length x.1 < suc (length bs) → IsOctets x.1
+    step : (b : ℕ) (bs : List ℕ) (vs : List V) → AreOctets (b ∷ bs) → listed read (b ∷ bs) ≡ Some vs
+        → ((x : V × List ℕ) (ws : List V) → length x.1 < suc (length bs) → AreOctets x.1
         → listed read x.1 ≡ Some ws → AllByRecursion IsValid ws × (x.1 ≡ flat_map text ws))
         → (r : Option (V × List ℕ)) → read (b ∷ bs) ≡ r → AllByRecursion IsValid vs × (b ∷ bs ≡ flat_map text vs)
     step b bs vs octets e rest None is = absurd (none-some vs (sym (listed_none read (b ∷ bs) (omega arith) is) ∙ e))
@@ -79,11 +79,11 @@ listed-whole {V} {text} {IsValid} {read} some falls laws =
         let r = some_bind (listed read x.1) (λ ws. Some (x.0 ∷ ws)) vs
         (sym (listed_more read falls (b ∷ bs) x is) ∙ e) in
         let t = laws.takes (b ∷ bs) x octets is in
-        let u = rest x r.0 (falls (b ∷ bs) x is) (IsOctets-right (text x.0) x.1 (subst IsOctets t.1 octets)) r.1 in
+        let u = rest x r.0 (falls (b ∷ bs) x is) (AreOctets-right (text x.0) x.1 (subst AreOctets t.1 octets)) r.1 in
         subst (λ (y : List V). AllByRecursion IsValid y × (b ∷ bs ≡ flat_map text y))
         (some_is (x.0 ∷ r.0) vs r.2) ((t.0, u.0), t.1 ∙ ap (λ (z : List ℕ). text x.0 ++ z) u.1)
 
-    takes : (n : ℕ) (bytes : List ℕ) (vs : List V) → length bytes ≤ n → IsOctets bytes
+    takes : (n : ℕ) (bytes : List ℕ) (vs : List V) → length bytes ≤ n → AreOctets bytes
         → listed read bytes ≡ Some vs → AllByRecursion IsValid vs × (bytes ≡ flat_map text vs)
     takes n [] vs le octets e =
         subst (λ (x : List V). AllByRecursion IsValid x × ([] ≡ flat_map text x))

@@ -8,7 +8,7 @@ use Rattle.std.proofs.Math.Nat.{pow-le-pow_right}
 use Rattle.der_core.specs.Number.{not_negative, number_contents}
 use Rattle.der_core.specs.Reading.{◌>>?◌, number_digits, number_of}
 use Rattle.der_core.specs.Reads.{Reads, Answers}
-use Rattle.der_core.proofs.Digits.{IsOctets, IsOctets-tail, below_base, digits_of-number}
+use Rattle.der_core.proofs.Digits.{AreOctets, AreOctets-tail, below_base, digits_of-number}
 
 -- a step that gave a value
 pub some_bind : {A B : Type 0} (o : Option A) (f : A → Option B) (y : B) → (o >>? f) ≡ Some y
@@ -27,13 +27,13 @@ some_guard false x y e = (refl, e)
 -- digits that begin with no 0, and are octets
 record AreDigits (ds : List ℕ) : Type 0 where
   first : 0 < get_or ds 0 1
-  octets : IsOctets ds
+  octets : AreOctets ds
 
-octets_none : IsOctets []
+octets_none : AreOctets []
 octets_none i = omega arith
 
 -- a number whose first octet isn't 00
-plain : (d : ℕ) (rest ds : List ℕ) → IsOctets (d ∷ rest) → (d ≡ 0 → ⊥)
+plain : (d : ℕ) (rest ds : List ℕ) → AreOctets (d ∷ rest) → (d ≡ 0 → ⊥)
     → cond (ltb d 128) (Some (d ∷ rest)) None ≡ Some ds → (d ∷ rest ≡ not_negative ds) × AreDigits ds
 plain d rest ds octets nz e = elim (cases_lt d 128) [
   | inr le ↦ let wrong : None ≡ Some ds = rw (le-ltb d 128 le) at e in absurd cc
@@ -44,7 +44,7 @@ plain d rest ds octets nz e = elim (cases_lt d 128) [
       (rw (lt-ltb d 128 lt) refl, record { first = pos; octets = octets })
 ]
 
-digits_take : (contents ds : List ℕ) → IsOctets contents → number_digits contents ≡ Some ds
+digits_take : (contents ds : List ℕ) → AreOctets contents → number_digits contents ≡ Some ds
     → (contents ≡ not_negative ds) × AreDigits ds
 unfolding number_digits
 digits_take [] ds octets e = absurd cc
@@ -62,11 +62,11 @@ digits_take (d ∷ (c ∷ cs)) ds octets e = elim (cases_eq d 0) [
       let g = some_guard (ltb c 128) (Some (c ∷ cs)) ds e' in
       let high : 128 ≤ c = ltb-false c 128 g.0 in
       subst (λ (x : List ℕ). (d ∷ (c ∷ cs) ≡ not_negative x) × AreDigits x) (some_is (c ∷ cs) ds g.1)
-      (rw (z, g.0) refl, record { first = omega arith; octets = IsOctets-tail d (c ∷ cs) octets })
+      (rw (z, g.0) refl, record { first = omega arith; octets = AreOctets-tail d (c ∷ cs) octets })
   | inr nz ↦ plain d (c ∷ cs) ds octets nz (rw (ne_eqb d 0 nz) at e)
 ]
 
-pub number_takes : (contents : List ℕ) (n : ℕ) → IsOctets contents → number_of contents ≡ Some n
+pub number_takes : (contents : List ℕ) (n : ℕ) → AreOctets contents → number_of contents ≡ Some n
     → (n < 2 ^ 128) × (contents ≡ number_contents n)
 unfolding number_of number_contents
 number_takes contents n octets e =
@@ -109,7 +109,7 @@ number_again n small =
     first zero = omega arith
     first (suc n) = none (digits_of 256 (suc n)) (first_digits_of 256 (suc n) (omega arith) (omega arith))
 
-pub number_reads : (contents : List ℕ) (r : Option ℕ) → IsOctets contents
+pub number_reads : (contents : List ℕ) (r : Option ℕ) → AreOctets contents
     → Answers (λ n. n) r (number_of contents) → Reads number_contents (λ n. n < 2 ^ 128) contents r
 number_reads contents (Some x) octets e n = (
   (λ is. let is' : number_of contents ≡ Some n = e ∙ is in number_takes contents n octets is'),

@@ -13,7 +13,7 @@ use Rattle.std.proofs.lemmas.List.{map_push, append-nil}
 use Rattle.std.proofs.lemmas.Nat.{div-mul-add, mod-mul-add}
 use Rattle.der_core.specs.Objects.{subidentifier, oid_contents, AreSmall, IsOid}
 use Rattle.der_core.specs.Reading.{◌>>?◌, subidentifier_step, subidentifiers_after, subidentifiers_of, oid_of}
-use Rattle.der_core.proofs.Digits.{IsOctets, IsOctets-tail, digits_more}
+use Rattle.der_core.proofs.Digits.{AreOctets, AreOctets-tail, digits_more}
 use Rattle.der_core.proofs.Numbers.{some_bind, some_is, some_guard}
 
 -- ---- one octet after the other, as a loop does
@@ -116,7 +116,7 @@ take_step n o m os ss octet step e rec =
           take_more n o os ss le octet tests.0 (ap (λ (k : ℕ). subidentifiers_after k os) (some_is _ _ is) ∙ e') rec
     ]
 
-subidentifiers_take : (n : ℕ) (os ss : List ℕ) → IsOctets os → subidentifiers_after n os ≡ Some ss → Taken n os ss
+subidentifiers_take : (n : ℕ) (os ss : List ℕ) → AreOctets os → subidentifiers_after n os ≡ Some ss → Taken n os ss
 unfolding subidentifiers_after
 subidentifiers_take n [] ss octets e = elim (cases_eq n 0) [
   | inl z ↦
@@ -129,7 +129,7 @@ subidentifiers_take n (o ∷ os) ss octets e =
     (λ m. cond (ltb o 128) (subidentifiers_after 0 os >>? λ ss. Some ((n * 128 + o) ∷ ss)) (subidentifiers_after m os))
     ss e in
     take_step n o step.0 os ss (octets 0) step.1 step.2
-    (λ k ts h. subidentifiers_take k os ts (IsOctets-tail o os octets) h)
+    (λ k ts h. subidentifiers_take k os ts (AreOctets-tail o os octets) h)
 
 -- ---- what spells subidentifiers
 
@@ -204,7 +204,7 @@ oid_contents-one ss ss' small small' e =
 
 -- ---- identifiers
 
-pub is_oid : (octets : List ℕ) → IsOctets octets → 0 < length octets → length octets ≤ 64
+pub is_oid : (octets : List ℕ) → AreOctets octets → 0 < length octets → length octets ≤ 64
     → is_some (subidentifiers_of octets) ≡ true → IsOid octets
 is_oid octets are some most test = by_case (subidentifiers_of octets) refl test
   where
@@ -217,7 +217,7 @@ is_oid octets are some most test = by_case (subidentifiers_of octets) refl test
 pub IsOid-read : (octets : List ℕ) → IsOid octets → is_some (subidentifiers_of octets) ≡ true
 IsOid-read octets h = rw (ap subidentifiers_of h.spelled.2 ∙ subidentifiers_again h.spelled.0 h.spelled.1) refl
 
-pub oid_take : (octets id : List ℕ) → IsOctets octets → oid_of octets ≡ Some id → IsOid id × (octets ≡ id)
+pub oid_take : (octets id : List ℕ) → AreOctets octets → oid_of octets ≡ Some id → IsOid id × (octets ≡ id)
 unfolding oid_of
 oid_take octets id are e =
     let g = cond_some
@@ -230,14 +230,14 @@ pub oid_again : (id : List ℕ) → IsOid id → oid_of id ≡ Some id
 unfolding oid_of
 oid_again id h = rw (IsOid-read id h, lt-ltb 0 (length id) h.some, lt-ltb (length id) 65 (omega (arith, h.most))) refl
 
-pub oid_none : (octets : List ℕ) → IsOctets octets → (IsOid octets → ⊥) → oid_of octets ≡ None
+pub oid_none : (octets : List ℕ) → AreOctets octets → (IsOid octets → ⊥) → oid_of octets ≡ None
 oid_none octets are never = by_case (oid_of octets) refl
   where
     by_case : (r : Option (List ℕ)) → oid_of octets ≡ r → r ≡ None
     by_case None is = refl
     by_case (Some id) is = let t = oid_take octets id are is in absurd (never (rw t.1 t.0))
 
-pub is_identifier : (octets : List ℕ) (b : Bool) → IsOctets octets → b ≡ is_some (oid_of octets)
+pub is_identifier : (octets : List ℕ) (b : Bool) → AreOctets octets → b ≡ is_some (oid_of octets)
     → IsTrue b ↔ IsOid octets
 is_identifier octets b are e =
     (λ yes. by_case (oid_of octets) refl (sym e ∙ yes), λ h. e ∙ rw (oid_again octets h) refl)

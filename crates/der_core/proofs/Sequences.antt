@@ -6,6 +6,7 @@ use Rattle.std.proofs.lemmas.List.{take-append-drop, length-append, length-take,
 use Rattle.std.proofs.Math.Seq.{take-append-add}
 use Rattle.der_core.specs.declared.fault.DerFault.{DerFault}
 use Rattle.der_core.specs.Element.{length_octets, enc}
+use Rattle.der_core.specs.Head.{IsHead}
 use Rattle.der_core.specs.Reading.{length_at}
 use Rattle.der_core.specs.Items.{IsSequence, HasSequence, BeginsSequence}
 use Rattle.der_core.specs.Progress.{Declares, sequence_size}
@@ -34,6 +35,9 @@ has_from_is octets s = record { item = octets; rest = []; sequence = s; text = s
 
 -- ---- the head of a SEQUENCE
 
+pub a_head : (size : ℕ) → size < 2 ^ 32 → IsHead 0x30 size
+a_head size fits = record { octet = omega arith; low_bits = omega arith; fits = fits }
+
 -- one to five length octets
 pub length_octets_most : (size : ℕ) → size < 2 ^ 32
     → (0 < length (length_octets size)) × (length (length_octets size) ≤ 5)
@@ -46,21 +50,21 @@ length_octets_most size fits = elim (cases_lt size 128) [
 
 pub declares_more : (octets more : List ℕ) (size : ℕ) → Declares octets size → Declares (octets ++ more) size
 declares_more octets more size d = record {
-  fits = d.fits;
-  contents = d.contents ++ more;
+  head = d.head;
+  rest = d.rest ++ more;
   text = ap (λ (x : List ℕ). x ++ more) d.text
-      ∙ ap (λ (x : List ℕ). 48 ∷ x) (append_assoc (length_octets size) d.contents more);
+      ∙ ap (λ (x : List ℕ). 0x30 ∷ x) (append_assoc (length_octets size) d.rest more);
 }
 
 -- octets declare one length at most
 pub declares_once : (octets : List ℕ) (size other : ℕ) → Declares octets size → Declares octets other → size ≡ other
 declares_once octets size other d e =
-    let tails : length_octets size ++ d.contents ≡ length_octets other ++ e.contents =
+    let tails : length_octets size ++ d.rest ≡ length_octets other ++ e.rest =
     tail _ _ (sym d.text ∙ e.text) in
-    same size other d.contents e.contents
-    (sym (length_again size d.contents d.fits) ∙ ap length_at tails ∙ length_again other e.contents e.fits)
+    same size other d.rest e.rest
+    (sym (length_again size d.rest d.head.fits) ∙ ap length_at tails ∙ length_again other e.rest e.head.fits)
   where
-    tail : (xs ys : List ℕ) → 48 ∷ xs ≡ 48 ∷ ys → xs ≡ ys
+    tail : (xs ys : List ℕ) → 0x30 ∷ xs ≡ 0x30 ∷ ys → xs ≡ ys
     tail xs ys e = cc
 
     same : (m n : ℕ) (xs ys : List ℕ) → ◌≡◌ {A = Result (ℕ × List ℕ) DerFault} (Ok (m, xs)) (Ok (n, ys)) → m ≡ n
@@ -69,16 +73,16 @@ declares_once octets size other d e =
 -- the head stands in the first six octets
 pub declares_first : (octets : List ℕ) (size : ℕ) → Declares octets size → Declares (take 6 octets) size
 declares_first octets size d =
-    let most = length_octets_most size d.fits in
-    let head : List ℕ = 48 ∷ length_octets size in
-    let room : 6 ≡ length (48 ∷ length_octets size) + (6 - length (48 ∷ length_octets size)) =
+    let most = length_octets_most size d.head.fits in
+    let head : List ℕ = 0x30 ∷ length_octets size in
+    let room : 6 ≡ length (0x30 ∷ length_octets size) + (6 - length (0x30 ∷ length_octets size)) =
     omega (arith, most.1) in
     record {
-      fits = d.fits;
-      contents = take (6 - length (48 ∷ length_octets size)) d.contents;
+      head = d.head;
+      rest = take (6 - length (0x30 ∷ length_octets size)) d.rest;
       text = ap (take 6) d.text
-          ∙ ap (λ (k : ℕ). take k ((48 ∷ length_octets size) ++ d.contents)) room
-          ∙ take-append-add (48 ∷ length_octets size) d.contents (6 - length (48 ∷ length_octets size));
+          ∙ ap (λ (k : ℕ). take k ((0x30 ∷ length_octets size) ++ d.rest)) room
+          ∙ take-append-add (0x30 ∷ length_octets size) d.rest (6 - length (0x30 ∷ length_octets size));
     }
 
 pub declares_from_first : (octets : List ℕ) (size : ℕ) → Declares (take 6 octets) size → Declares octets size
@@ -89,11 +93,11 @@ declares_from_first octets size d =
 -- ---- the whole of it
 
 pub length-item : (item : List ℕ) (s : IsSequence item) → length item ≡ sequence_size (length s.contents)
-length-item item s = ap length s.text ∙ length-enc 48 s.contents
+length-item item s = ap length s.text ∙ length-enc 0x30 s.contents
 
 pub declares_item : (item : List ℕ) (s : IsSequence item) → Declares item (length s.contents)
 unfolding enc
-declares_item item s = record { fits = s.element.fits; contents = s.contents; text = s.text }
+declares_item item s = record { head = a_head _ s.element.fits; rest = s.contents; text = s.text }
 
 pub declares_has : (octets : List ℕ) (h : HasSequence octets) → Declares octets (length h.sequence.contents)
 declares_has octets h =
@@ -112,18 +116,18 @@ pub is_taken : (octets : List ℕ) (size : ℕ) → Declares octets size → seq
     → IsSequence (take (sequence_size size) octets)
 unfolding enc
 is_taken octets size d enough =
-    let head : List ℕ = 48 ∷ length_octets size in
-    let sizes : length octets ≡ suc (length (length_octets size)) + length d.contents = ap length d.text
-    ∙ length-append (48 ∷ length_octets size) d.contents in
-    let inside : length (take size d.contents) ≡ size = omega (arith, length-take size d.contents, sizes) in
-    let room : sequence_size size ≡ length (48 ∷ length_octets size) + size = omega arith in
+    let head : List ℕ = 0x30 ∷ length_octets size in
+    let sizes : length octets ≡ suc (length (length_octets size)) + length d.rest = ap length d.text
+    ∙ length-append (0x30 ∷ length_octets size) d.rest in
+    let inside : length (take size d.rest) ≡ size = omega (arith, length-take size d.rest, sizes) in
+    let room : sequence_size size ≡ length (0x30 ∷ length_octets size) + size = omega arith in
     record {
-      contents = take size d.contents;
-      element = record { octet = omega arith; low_bits = omega arith; fits = omega (arith, inside, d.fits) };
+      contents = take size d.rest;
+      element = record { octet = omega arith; low_bits = omega arith; fits = omega (arith, inside, d.head.fits) };
       text = ap (take (sequence_size size)) d.text
-          ∙ ap (λ (k : ℕ). take k ((48 ∷ length_octets size) ++ d.contents)) room
-          ∙ take-append-add (48 ∷ length_octets size) d.contents size
-          ∙ ap (λ (k : ℕ). 48 ∷ (length_octets k ++ take size d.contents)) (sym inside);
+          ∙ ap (λ (k : ℕ). take k ((0x30 ∷ length_octets size) ++ d.rest)) room
+          ∙ take-append-add (0x30 ∷ length_octets size) d.rest size
+          ∙ ap (λ (k : ℕ). 0x30 ∷ (length_octets k ++ take size d.rest)) (sym inside);
     }
 
 pub has_taken : (octets : List ℕ) (size : ℕ) → Declares octets size → sequence_size size ≤ length octets
@@ -137,8 +141,8 @@ has_taken octets size d enough = record {
 
 pub begins_from_declares : (octets : List ℕ) (size : ℕ) → Declares octets size → BeginsSequence octets
 begins_from_declares octets size d =
-    let sizes : length octets ≡ suc (length (length_octets size)) + length d.contents = ap length d.text
-    ∙ length-append (48 ∷ length_octets size) d.contents in
+    let sizes : length octets ≡ suc (length (length_octets size)) + length d.rest = ap length d.text
+    ∙ length-append (0x30 ∷ length_octets size) d.rest in
     let enough : sequence_size size ≤ length (octets ++ replicate size 0) =
     omega (arith, sizes, length-append octets (replicate size 0), length-replicate {A = ℕ} size 0) in
     record {

@@ -17,7 +17,7 @@ use Rattle.der_core.specs.Reads.{Reads, Answers}
 use Rattle.der_core.specs.Shapes.{Front, Whole, element, alone, before, optional, begins_with, choice, mapped}
 use Rattle.der_core.specs.Shapes.{tested, text_if, anything, any_element, maybe_before, IsOneElement}
 use Rattle.der_core.specs.Shapes.{IsFront, IsWhole}
-use Rattle.der_core.proofs.Digits.{IsOctets, IsOctets-right}
+use Rattle.der_core.proofs.Digits.{AreOctets, AreOctets-right}
 use Rattle.der_core.proofs.Element.{element_takes, element_again}
 use Rattle.der_core.proofs.Numbers.{some_bind, some_is, number_takes, number_again}
 use Rattle.der_core.proofs.Objects.{oid_take, oid_again}
@@ -51,7 +51,7 @@ before-whole {V} {W} {text} {IsValid} {read} {text'} {IsValid'} {read'} first se
       let b = some_bind (read bytes) (λ x. read' x.1 >>? λ w. Some (x.0, w)) x e in
       let c = some_bind (read' b.0.1) (λ w. Some (b.0.0, w)) x b.2 in
       let t = first.takes bytes b.0 octets b.1 in
-      let u = second.takes b.0.1 c.0 (IsOctets-right (text b.0.0) b.0.1 (subst IsOctets t.1 octets)) c.1 in
+      let u = second.takes b.0.1 c.0 (AreOctets-right (text b.0.0) b.0.1 (subst AreOctets t.1 octets)) c.1 in
       subst (λ (y : V × W). (IsValid y.0 × IsValid' y.1) × (bytes ≡ text y.0 ++ text' y.1))
       (some_is (b.0.0, c.0) x c.2)
       ((t.0, u.0), t.1 ∙ ap (λ (rest : List ℕ). text b.0.0 ++ rest) u.1);
@@ -65,7 +65,7 @@ pub optional-whole : {V : Type 0} {text : V → List ℕ} {IsValid : V → Type 
     → IsWhole text IsValid read → IsWhole (text_if text) (λ o. IfSome o IsValid) (optional read)
 optional-whole {V} {text} {IsValid} {read} some laws = record { takes = takes; again = again }
   where
-    takes : (bytes : List ℕ) (o : Option V) → IsOctets bytes → optional read bytes ≡ Some o
+    takes : (bytes : List ℕ) (o : Option V) → AreOctets bytes → optional read bytes ≡ Some o
         → IfSome o IsValid × (bytes ≡ text_if text o)
     takes [] o octets e =
         subst (λ (x : Option V). IfSome x IsValid × ([] ≡ text_if text x)) (some_is None o e) (tt, refl)
@@ -88,7 +88,7 @@ pub choice-front : {V : Type 0} {text : V → List ℕ} {This Other : V → Type
 choice-front {V} {text} {This} {Other} {this} {other} tag begins differs first second =
     record { takes = takes; again = again }
   where
-    takes : (bytes : List ℕ) (x : V × List ℕ) → IsOctets bytes → choice tag this other bytes ≡ Some x
+    takes : (bytes : List ℕ) (x : V × List ℕ) → AreOctets bytes → choice tag this other bytes ≡ Some x
         → (This x.0 ⊎ Other x.0) × (bytes ≡ text x.0 ++ x.1)
     takes bytes x octets e = elim (cases_Bool (begins_with tag bytes)) [
       | inl is ↦ let t = first.takes bytes x octets (rw is at e) in (inl t.0, t.1)
@@ -184,7 +184,7 @@ choice-elements {A} {B} {V} {text} {IsValid} {text-a} {IsValid-a} {read-a} {text
         subst (λ (z : X × List ℕ). element tag (mapped h read) bytes ≡ Some (h z.0, z.1)) same
         (element_made tag (mapped h read) bytes c.0 (h r.0) c.1 (mapped_is h read c.0.0 r.0 r.1))
 
-    takes : (bytes : List ℕ) (x : V × List ℕ) → IsOctets bytes
+    takes : (bytes : List ℕ) (x : V × List ℕ) → AreOctets bytes
         → choice tag-a (element tag-a (mapped f read-a)) (element tag-b (mapped g read-b)) bytes ≡ Some x
         → IsValid x.0 × (bytes ≡ text x.0 ++ x.1)
     takes bytes x octets e = elim (cases_Bool (begins_with tag-a bytes)) [
@@ -236,14 +236,14 @@ choice-elements {A} {B} {V} {text} {IsValid} {text-a} {IsValid-a} {read-a} {text
 -- ---- a reader that answers so reads exactly
 
 pub IsWhole-reads : {V : Type 0} {text : V → List ℕ} {IsValid : V → Type 0} {read : Whole V} (bytes : List ℕ)
-    (result : Option V) → IsWhole text IsValid read → IsOctets bytes → result ≡ read bytes
+    (result : Option V) → IsWhole text IsValid read → AreOctets bytes → result ≡ read bytes
     → Reads text IsValid bytes result
 IsWhole-reads bytes result laws octets e v =
     (λ is. laws.takes bytes v octets (sym e ∙ is), λ h. e ∙ rw h.1 (laws.again v h.0))
 
 pub Answers-reads : {R V : Type 0} {text : V → List ℕ} {IsValid : V → Type 0} {read : Whole V} (view : R → V)
     (bytes : List ℕ) (result : Option R)
-    → IsWhole text IsValid read → IsOctets bytes → Answers view result (read bytes)
+    → IsWhole text IsValid read → AreOctets bytes → Answers view result (read bytes)
     → Reads text IsValid bytes (option_map view result)
 Answers-reads view bytes (Some x) laws octets e = IsWhole-reads bytes (Some (view x)) laws octets (sym e)
 Answers-reads view bytes None laws octets e = IsWhole-reads bytes None laws octets (sym e)
@@ -272,7 +272,7 @@ octets-whole = record {
 
 pub IsWhole-answers : {V : Type 0} {text : V → List ℕ} {IsValid : V → Type 0} {read : Whole V} (bytes : List ℕ)
     (result : Option V)
-    → IsWhole text IsValid read → IsOctets bytes → Answers (λ v. v) result (read bytes)
+    → IsWhole text IsValid read → AreOctets bytes → Answers (λ v. v) result (read bytes)
     → Reads text IsValid bytes result
 IsWhole-answers bytes (Some x) laws octets e = IsWhole-reads bytes (Some x) laws octets (sym e)
 IsWhole-answers bytes None laws octets e = IsWhole-reads bytes None laws octets (sym e)
@@ -295,7 +295,7 @@ anything-whole = record { takes = λ bytes v octets e. (tt, some_is bytes v e); 
 pub any_element-front : IsFront (λ (octets : List ℕ). octets) IsOneElement any_element
 any_element-front = record { takes = takes; again = again }
   where
-    takes : (bytes : List ℕ) (x : List ℕ × List ℕ) → IsOctets bytes → any_element bytes ≡ Some x
+    takes : (bytes : List ℕ) (x : List ℕ × List ℕ) → AreOctets bytes → any_element bytes ≡ Some x
         → IsOneElement x.0 × (bytes ≡ x.0 ++ x.1)
     takes bytes x octets e =
         let b = some_bind (front_of bytes) (λ y. Some (enc y.0 y.1.0, y.1.1)) x e in
@@ -322,14 +322,14 @@ pub maybe_before-whole : {V W : Type 0} {text : V → List ℕ} {IsValid : V →
 maybe_before-whole {V} {W} {text} {IsValid} {read} {text'} {IsValid'} {read'} tag begins differs first second =
     record { takes = takes; again = λ x valid. again x.0 x.1 valid.0 valid.1 }
   where
-    takes : (bytes : List ℕ) (x : Option V × W) → IsOctets bytes → maybe_before tag read read' bytes ≡ Some x
+    takes : (bytes : List ℕ) (x : Option V × W) → AreOctets bytes → maybe_before tag read read' bytes ≡ Some x
         → (IfSome x.0 IsValid × IsValid' x.1) × (bytes ≡ text_if text x.0 ++ text' x.1)
     takes bytes x octets e = elim (cases_Bool (begins_with tag bytes)) [
       | inl is ↦
           let b = some_bind (read bytes) (λ x. read' x.1 >>? λ w. Some (Some x.0, w)) x (rw is at e) in
           let c = some_bind (read' b.0.1) (λ w. Some (Some b.0.0, w)) x b.2 in
           let t = first.takes bytes b.0 octets b.1 in
-          let u = second.takes b.0.1 c.0 (IsOctets-right (text b.0.0) b.0.1 (subst IsOctets t.1 octets)) c.1 in
+          let u = second.takes b.0.1 c.0 (AreOctets-right (text b.0.0) b.0.1 (subst AreOctets t.1 octets)) c.1 in
           subst (λ (y : Option V × W). (IfSome y.0 IsValid × IsValid' y.1)
           × (bytes ≡ text_if text y.0 ++ text' y.1)) (some_is (Some b.0.0, c.0) x c.2)
           ((t.0, u.0), t.1 ∙ ap (λ (rest : List ℕ). text b.0.0 ++ rest) u.1)

@@ -1,10 +1,9 @@
 -- The items of a stream, and where a splitter stands in it.
-use Rattle.std.proofs.Common.{◌≡◌, ℕ, zero, suc, ◌<◌, ◌≤◌, List, [], ◌∷◌, ◌++◌, length, take, eqb, true, false, Option, Some, None, refl, sym, ap, subst, ◌∙◌, append_assoc, arith, inl, inr}
+use Rattle.std.proofs.Common.{◌≡◌, ℕ, zero, suc, ◌≤◌, List, [], ◌∷◌, ◌++◌, length, take, eqb, true, false, Option, Some, None, refl, sym, ap, subst, ◌∙◌, append_assoc, arith, inl, inr}
 use Rattle.std.specs.List.{flat_map, AllByRecursion}
-use Rattle.std.specs.Prelude.{All}
 use Rattle.std.specs.Option.{option_map_or}
-use Rattle.std.proofs.lemmas.Bool.{cases_lt, eqb-true}
-use Rattle.std.proofs.lemmas.List.{append-nil, get_or_past, length-append, flat_map_more, nil_from_length}
+use Rattle.std.proofs.lemmas.Bool.{eqb-true}
+use Rattle.std.proofs.lemmas.List.{append-nil, length-append, flat_map_more, nil_from_length}
 use Rattle.der_core.specs.declared.splitter.Step.{Step}
 use Rattle.der_core.specs.declared.splitter.Step.TheVariants.{More, Ends, Rest}
 use Rattle.der_core.specs.Element.{enc}
@@ -12,7 +11,7 @@ use Rattle.der_core.specs.Reading.{tagged_of}
 use Rattle.der_core.specs.Items.{IsSequence, HasSequence, IsItems, last_item, items_within, items, Splits}
 use Rattle.der_core.specs.Progress.{Progress, Sees}
 use Rattle.der_core.specs.Splitter.{IsStep, Stands, StandsAfter}
-use Rattle.der_core.proofs.Digits.{IsOctets, IsOctets-right}
+use Rattle.der_core.proofs.Digits.{AreOctets, AreOctets-right}
 use Rattle.der_core.proofs.Places.{length-enc}
 use Rattle.der_core.proofs.Shapes.{tagged_takes, tagged_again}
 use Rattle.der_core.proofs.Theorems.{enc-one}
@@ -24,10 +23,10 @@ use Rattle.der_core.proofs.Sequences.{begins_from_has, none_of_none}
 sequence_once : (item other rest rest' : List ℕ) → IsSequence item → IsSequence other
     → item ++ rest ≡ other ++ rest' → (item ≡ other) × (rest ≡ rest')
 sequence_once item other rest rest' s t e =
-    let both : enc 48 s.contents ++ rest ≡ enc 48 t.contents ++ rest' =
+    let both : enc 0x30 s.contents ++ rest ≡ enc 0x30 t.contents ++ rest' =
     ap (λ (x : List ℕ). x ++ rest) (sym s.text) ∙ e ∙ ap (λ (x : List ℕ). x ++ rest') t.text in
-    let same = enc-one 48 48 s.contents t.contents rest rest' s.element t.element both in
-    (s.text ∙ ap (enc 48) same.1 ∙ sym t.text, same.2)
+    let same = enc-one 0x30 0x30 s.contents t.contents rest rest' s.element t.element both in
+    (s.text ∙ ap (enc 0x30) same.1 ∙ sym t.text, same.2)
 
 has_of : (octets item rest : List ℕ) → IsSequence item → octets ≡ item ++ rest → HasSequence octets
 has_of octets item rest s e = record { item = item; rest = rest; sequence = s; text = e }
@@ -66,49 +65,43 @@ last_items (o ∷ os) never = inr (never, omega arith, refl, refl)
 
 -- ---- the items as they are read
 
-no_sequence : (octets : List ℕ) → tagged_of 48 octets ≡ None → HasSequence octets → ⊥
+no_sequence : (octets : List ℕ) → tagged_of 0x30 octets ≡ None → HasSequence octets → ⊥
 no_sequence octets none h =
-    let text : octets ≡ enc 48 h.sequence.contents ++ h.rest = h.text
+    let text : octets ≡ enc 0x30 h.sequence.contents ++ h.rest = h.text
     ∙ ap (λ (x : List ℕ). x ++ h.rest) h.sequence.text in
-    let read : tagged_of 48 octets ≡ Some (h.sequence.contents, h.rest) = ap (tagged_of 48) text
-    ∙ tagged_again 48 h.sequence.contents h.rest h.sequence.element in
+    let read : tagged_of 0x30 octets ≡ Some (h.sequence.contents, h.rest) = ap (tagged_of 0x30) text
+    ∙ tagged_again 0x30 h.sequence.contents h.rest h.sequence.element in
     differ (sym none ∙ read)
   where
     differ : {x : List ℕ × List ℕ} → ◌≡◌ {A = Option (List ℕ × List ℕ)} None (Some x) → ⊥
     differ e = cc
 
-within_is : (turns : ℕ) (octets : List ℕ) → length octets ≤ turns → IsOctets octets
+within_is : (turns : ℕ) (octets : List ℕ) → length octets ≤ turns → AreOctets octets
     → IsItems octets (items_within turns octets)
 within_is zero octets few are =
     let none : octets ≡ [] = nil_from_length octets (omega (arith, few)) in
     last_items octets (λ h. none_of_none (subst HasSequence none h))
-within_is (suc turns) octets few are = by_front (tagged_of 48 octets) refl (λ rest. within_is turns rest)
+within_is (suc turns) octets few are = by_front (tagged_of 0x30 octets) refl (λ rest. within_is turns rest)
   where
-    by_front : (front : Option (List ℕ × List ℕ)) → tagged_of 48 octets ≡ front
-        → ((rest : List ℕ) → length rest ≤ turns → IsOctets rest → IsItems rest (items_within turns rest))
-        → IsItems octets (option_map_or (λ front. enc 48 front.0 ∷ items_within turns front.1) front
+    by_front : (front : Option (List ℕ × List ℕ)) → tagged_of 0x30 octets ≡ front
+        → ((rest : List ℕ) → length rest ≤ turns → AreOctets rest → IsItems rest (items_within turns rest))
+        → IsItems octets (option_map_or (λ front. enc 0x30 front.0 ∷ items_within turns front.1) front
         (last_item octets))
     by_front None is others = last_items octets (no_sequence octets is)
     by_front (Some x) is others =
-        let t = tagged_takes 48 octets x are is in
+        let t = tagged_takes 0x30 octets x are is in
         let fewer : length x.1 ≤ turns =
-        omega (arith, few, ap length t.1, length-append (enc 48 x.0) x.1, length-enc 48 x.0) in
+        omega (arith, few, ap length t.1, length-append (enc 0x30 x.0) x.1, length-enc 0x30 x.0) in
         inl (
           x.1,
           record { contents = x.0; element = t.0; text = refl },
           t.1,
-          others x.1 fewer (IsOctets-right (enc 48 x.0) x.1 (subst IsOctets t.1 are)),
+          others x.1 fewer (AreOctets-right (enc 0x30 x.0) x.1 (subst AreOctets t.1 are)),
         )
 
-pub items_read : (octets : List ℕ) → IsOctets octets → IsItems octets (items octets)
+pub items_read : (octets : List ℕ) → AreOctets octets → IsItems octets (items octets)
 unfolding items
 items_read octets are = within_is (length octets) octets (omega arith) are
-
-pub octets_from_all : (octets : List ℕ) → All (λ octet. octet < 256) octets → IsOctets octets
-octets_from_all octets all i = elim (cases_lt i (length octets)) [
-  | inl lt ↦ all i 0 lt
-  | inr le ↦ rw (get_or_past octets i 0 le) (omega arith)
-]
 
 -- ---- a stream so far
 
@@ -163,6 +156,29 @@ splits_end stream ended so_far front s is = record {
   each = all_more ended (so_far ++ front) s.each is;
   goes_on = none_of_none;
 }
+
+-- a stream so far is split in one way
+pub split_once : (stream so_far so_far' : List ℕ) (ended ended' : List (List ℕ)) → Splits stream ended so_far
+    → Splits stream ended' so_far' → (ended ≡ ended') × (so_far ≡ so_far')
+split_once stream so_far so_far' ended ended' s t =
+    go ended ended' s.each t.each (sym s.whole ∙ t.whole)
+  where
+    go : (these those : List (List ℕ)) → AllByRecursion IsSequence these → AllByRecursion IsSequence those
+        → flat_map (λ item. item) these ++ so_far ≡ flat_map (λ item. item) those ++ so_far'
+        → (these ≡ those) × (so_far ≡ so_far')
+    go [] [] each each' e = (refl, e)
+    go [] (j ∷ js) each each' e =
+        absurd (s.goes_on (has_of so_far j (flat_map (λ item. item) js ++ so_far') each'.0
+        (e ∙ append_assoc j (flat_map (λ item. item) js) so_far')))
+    go (i ∷ is) [] each each' e =
+        absurd (t.goes_on (has_of so_far' i (flat_map (λ item. item) is ++ so_far) each.0
+        (sym e ∙ append_assoc i (flat_map (λ item. item) is) so_far)))
+    go (i ∷ is) (j ∷ js) each each' e =
+        let same = sequence_once i j (flat_map (λ item. item) is ++ so_far) (flat_map (λ item. item) js ++ so_far')
+        each.0 each'.0 (sym (append_assoc i (flat_map (λ item. item) is) so_far) ∙ e
+        ∙ append_assoc j (flat_map (λ item. item) js) so_far') in
+        let rest = go is js each.1 each'.1 same.1 in
+        (ap (λ (x : List ℕ). x ∷ is) same.0 ∙ ap (λ (xs : List (List ℕ)). j ∷ xs) rest.0, rest.1)
 
 -- ---- a splitter in the stream
 

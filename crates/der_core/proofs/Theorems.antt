@@ -10,17 +10,17 @@ use Rattle.std.proofs.Math.Nat.{pow-le-pow_right, mul-le-mul_right}
 use Rattle.der_core.specs.declared.fault.DerFault.{DerFault}
 use Rattle.der_core.specs.Element.{enc, IsElement, HasTagged}
 use Rattle.der_core.specs.Number.{not_negative, number_contents, IsFewest}
-use Rattle.der_core.specs.Reading.{Front, element_at}
+use Rattle.der_core.specs.Reading.{FirstElement, element_at}
 use Rattle.der_core.proofs.Element.{ok_is, element_again}
 
 pub enc-one : (tag tag' : ℕ) (contents contents' rest rest' : List ℕ) → IsElement tag contents
     → IsElement tag' contents'
     → enc tag contents ++ rest ≡ enc tag' contents' ++ rest' → (tag ≡ tag') × (contents ≡ contents') × (rest ≡ rest')
 enc-one tag tag' contents contents' rest rest' h h' e =
-    let read : ◌≡◌ {A = Result Front DerFault} (Ok (tag, (contents, rest))) (Ok (tag', (contents', rest'))) =
+    let read : ◌≡◌ {A = Result FirstElement DerFault} (Ok (tag, (contents, rest))) (Ok (tag', (contents', rest'))) =
     sym (element_again tag contents rest h) ∙ ap element_at e ∙ element_again tag' contents' rest' h' in
     let same = ok_is {E = DerFault} (tag, (contents, rest)) (tag', (contents', rest')) read in
-    (ap (λ (x : Front). x.0) same, ap (λ (x : Front). x.1.0) same, ap (λ (x : Front). x.1.1) same)
+    (ap (λ (x : FirstElement). x.0) same, ap (λ (x : FirstElement). x.1.0) same, ap (λ (x : FirstElement). x.1.1) same)
 
 -- where one element stands at the front, none of another tag does
 pub other_tag : (tag tag' : ℕ) (contents whole rest bytes : List ℕ) → IsElement tag' contents

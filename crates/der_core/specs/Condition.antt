@@ -1,5 +1,5 @@
 -- The conditions under which a firmware package is accepted, and the code that a failing one is answered with
--- (RFC 4108, section 5).
+-- (RFC 4108, section 4.1.3).
 use Rattle.std.specs.Prelude.{ℕ, ◌-◌, ◌≤◌, List, [], ◌∷◌, slice_index_or}
 use Rattle.der_core.specs.declared.load_error.LoadErrorCode.{LoadErrorCode}
 use Rattle.der_core.specs.declared.load_error.LoadErrorCode.TheVariants.{DecodeFailure, BadContentInfo}

@@ -1,7 +1,11 @@
 -- Elements of DER: a tag octet, the length of the contents in the fewest octets, and the contents
 -- (X.690, sections 8.1 and 10.1).
-use Rattle.std.specs.Prelude.{◌≡◌, ℕ, ◌+◌, ◌<◌, ◌%◌, ◌^◌, List, [], ◌∷◌, ◌++◌, length, nat_lt, if◌then◌else◌}
+use Rattle.std.specs.Prelude.{◌≡◌, ℕ, ◌+◌, ◌<◌, ◌%◌, ◌^◌, List, [], ◌∷◌, ◌++◌, length, get_or, nat_lt, if◌then◌else◌}
 use Rattle.std.specs.Int.Digits.{digits_of}
+
+-- numbers below 256
+abbrev pub AreOctets : List ℕ → Type 0
+AreOctets octets = (i : ℕ) → get_or octets i 0 < 256
 
 -- a length below 128 is itself (8.1.3.4); any other is 128 and the count of its base 256 digits, and
 -- then these digits, high first (8.1.3.5 and 10.1)
@@ -20,6 +24,16 @@ pub record IsElement (tag : ℕ) (contents : List ℕ) : Type 0 where
   pub octet : tag < 256
   pub low_bits : tag % 32 < 31
   pub fits : length contents < 2 ^ 32
+
+-- contents that an element has room for
+abbrev pub HasRoom : List ℕ → Type 0
+HasRoom contents = length contents < 2 ^ 32
+
+-- the octets are one element of this tag
+pub record IsTagged (tag : ℕ) (octets : List ℕ) : Type 0 where
+  pub contents : List ℕ
+  pub element : IsElement tag contents
+  pub text : octets ≡ enc tag contents
 
 -- a front of the octets is an element
 abbrev pub HasElement : List ℕ → Type 0

@@ -1,7 +1,8 @@
 -- The contents of an INTEGER or an ENUMERATED, of either sign (X.690, sections 8.3 and 8.4).
 use Rattle.std.specs.Prelude.{◌≡◌, ℕ, ℤ, pos, negsuc, ◌-ℤ◌, ◌-◌, ◌^◌, ◌<◌, ◌≤◌, length, List, map, slice_index}
 use Rattle.std.specs.Prelude.{nat_lt, if◌then◌else◌}
-use Rattle.std.specs.Int.Digits.{number_from_digits, AllBelowBase}
+use Rattle.std.specs.Int.Digits.{number_from_digits}
+use Rattle.der_core.specs.Element.{AreOctets}
 use Rattle.der_core.specs.Number.{number_contents}
 
 -- one octet at least (8.3.1), and the first octet and the top bit of the second are not all zeros, nor all ones (8.3.2)
@@ -9,10 +10,6 @@ pub record IsInteger (octets : List ℕ) : Type 0 where
   pub some : 0 < length octets
   pub not_zeros : 1 < length octets → slice_index octets 0 ≡ 0x00 → 0x80 ≤ slice_index octets 1
   pub not_ones : 1 < length octets → slice_index octets 0 ≡ 0xFF → slice_index octets 1 < 0x80
-
--- numbers below 256
-abbrev pub AreOctets : List ℕ → Type 0
-AreOctets octets = AllBelowBase 256 octets
 
 -- the number that octets stand for: their base 256 digits, less the whole range where the top bit is set (8.3.3)
 abbrev pub twos_complement : List ℕ → ℤ

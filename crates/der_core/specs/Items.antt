@@ -3,14 +3,12 @@
 use Rattle.std.specs.Prelude.{◌≡◌, ℕ, zero, suc, ◌<◌, List, [], ◌∷◌, ◌++◌, length, ◌⊎◌}
 use Rattle.std.specs.List.{flat_map, AllByRecursion}
 use Rattle.std.specs.Option.{option_map_or}
-use Rattle.der_core.specs.Element.{enc, IsElement}
+use Rattle.der_core.specs.Element.{enc, IsTagged}
 use Rattle.der_core.specs.Reading.{tagged_of}
 
 -- the octets are one element of tag 30 (hex)
-pub record IsSequence (octets : List ℕ) : Type 0 where
-  pub contents : List ℕ
-  pub element : IsElement 48 contents
-  pub text : octets ≡ enc 48 contents
+abbrev pub IsSequence : List ℕ → Type 0
+IsSequence octets = IsTagged 0x30 octets
 
 -- a front of the octets is such an element
 pub record HasSequence (octets : List ℕ) : Type 0 where
@@ -41,7 +39,7 @@ last_item (octet ∷ octets) = (octet ∷ octets) ∷ []
 abbrev pub items_within : ℕ → List ℕ → List (List ℕ)
 items_within zero octets = last_item octets
 items_within (suc turns) octets =
-    option_map_or (λ front. enc 48 front.0 ∷ items_within turns front.1) (tagged_of 48 octets) (last_item octets)
+    option_map_or (λ front. enc 0x30 front.0 ∷ items_within turns front.1) (tagged_of 0x30 octets) (last_item octets)
 
 -- the items, as they are read from the front (that these are the items is the law `one_list_of_items`)
 unfoldable pub items : List ℕ → List (List ℕ)

@@ -1,4 +1,5 @@
 pub mod Element
+pub mod Head
 pub mod Number
 pub mod Objects
 pub mod Reading

@@ -1,4 +1,4 @@
--- The codes of FirmwarePackageLoadErrorCode (RFC 4108, section 5) that conditions are answered with.
+-- The codes of FirmwarePackageLoadErrorCode (RFC 4108, section 4.1.3) that conditions are answered with.
 use Rattle.std.specs.Prelude.{ℕ}
 use Rattle.der_core.specs.declared.load_error.LoadErrorCode.{LoadErrorCode}
 use Rattle.der_core.specs.declared.load_error.LoadErrorCode.TheVariants.{DecodeFailure, BadContentInfo}
@@ -18,7 +18,7 @@ use Rattle.der_core.specs.declared.load_error.LoadErrorCode.TheVariants.{WrongDe
 use Rattle.der_core.specs.declared.load_error.LoadErrorCode.TheVariants.{InsufficientMemory, BadFirmware}
 use Rattle.der_core.specs.declared.load_error.LoadErrorCode.TheVariants.{BreaksDependency, OtherError}
 
--- the number of a code (section 5)
+-- the number of a code (section 4.1.3)
 abbrev pub error_number : LoadErrorCode → ℕ
 error_number DecodeFailure = 1
 error_number BadContentInfo = 2

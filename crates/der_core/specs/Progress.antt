@@ -1,6 +1,7 @@
 -- What is seen of a splitter, and what that says of the octets that its item has had.
-use Rattle.std.specs.Prelude.{◌≡◌, ℕ, ◌+◌, ◌<◌, ◌^◌, List, ◌∷◌, ◌++◌, length, take, Option, Some, MatchOption}
+use Rattle.std.specs.Prelude.{◌≡◌, ℕ, ◌+◌, List, length, take, Option, Some, MatchOption}
 use Rattle.der_core.specs.Element.{length_octets}
+use Rattle.der_core.specs.Head.{BeginsWith}
 use Rattle.der_core.specs.Items.{IsSequence, HasSequence, BeginsSequence}
 
 -- the item's first octets, and how many it has had; no number where no SEQUENCE begins so
@@ -15,10 +16,8 @@ pub record Sees (seen : Progress) (item : List ℕ) : Type 0 where
       MatchOption seen.count (BeginsSequence item → ⊥) (λ count. (count ≡ length item) × BeginsSequence item)
 
 -- the octets begin with the tag 30 (hex) and this length (X.690, section 8.1.3)
-pub record Declares (octets : List ℕ) (size : ℕ) : Type 0 where
-  pub fits : size < 2 ^ 32
-  pub contents : List ℕ
-  pub text : octets ≡ 48 ∷ (length_octets size ++ contents)
+abbrev pub Declares : List ℕ → ℕ → Type 0
+Declares octets size = BeginsWith octets 0x30 size
 
 -- how many octets a SEQUENCE with contents of this size has: tag, length and contents
 abbrev pub sequence_size : ℕ → ℕ

@@ -31,22 +31,22 @@ length_at (b ∷ bs) =
     else (if (b == 128) || nat_lt 132 b then Err Malformed else long_length_at (b - 128) bs)
 
 -- tag, contents, and what follows
-abbrev pub Front : Type 0
-Front = ℕ × (List ℕ × List ℕ)
+abbrev pub FirstElement : Type 0
+FirstElement = ℕ × (List ℕ × List ℕ)
 
 -- the contents of this tag, where a length and what follows it have been read
-unfoldable pub contents_at : ℕ → ℕ × List ℕ → Result Front DerFault
+unfoldable pub contents_at : ℕ → ℕ × List ℕ → Result FirstElement DerFault
 contents_at tag n =
     if nat_lt (length n.1) n.0 then Err Short else Ok (tag, (take n.0 n.1, drop n.0 n.1))
 
 -- the element at the front
-unfoldable pub element_at : List ℕ → Result Front DerFault
+unfoldable pub element_at : List ℕ → Result FirstElement DerFault
 element_at [] = Err Short
 element_at (tag ∷ bytes) =
     if tag % 32 == 31 then Err Malformed else (length_at bytes >>= contents_at tag)
 
 -- the element at the front, where there is one
-unfoldable pub front_of : List ℕ → Option Front
+unfoldable pub front_of : List ℕ → Option FirstElement
 front_of bytes = elim (element_at bytes) [ Ok x ↦ Some x | Err e ↦ None ]
 
 -- the next step, where this one read something

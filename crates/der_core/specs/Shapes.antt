@@ -1,8 +1,9 @@
 -- Shapes: readings of DER texts (X.690, section 8.1) put together from parts, as ASN.1 puts types together
 -- (X.680). Their laws are in proofs/Shapes: what is put together from parts that read exactly reads exactly.
-use Rattle.std.specs.Prelude.{◌≡◌, ℕ, zero, suc, ◌<◌, Bool, false, List, [], ◌∷◌, ◌++◌, length, get_or, Option}
-use Rattle.std.specs.Prelude.{Some, None, ◌==◌, if◌then◌else◌}
-use Rattle.der_core.specs.Element.{enc, IsElement}
+use Rattle.std.specs.Prelude.{◌≡◌, ℕ, zero, suc, Bool, true, false, List, [], ◌∷◌, ◌++◌, length, Option}
+use Rattle.std.specs.Prelude.{Some, None, ◌==◌, not, if◌then◌else◌}
+use Rattle.std.specs.Option.{option_map_or}
+use Rattle.der_core.specs.Element.{enc, AreOctets, IsElement}
 use Rattle.der_core.specs.Reading.{◌>>?◌, front_of, tagged_of}
 
 -- ---- two kinds of readings
@@ -69,11 +70,26 @@ anything bytes = Some bytes
 abbrev pub any_element : Front (List ℕ)
 any_element bytes = front_of bytes >>? λ x. Some (enc x.0 x.1.0, x.1.1)
 
+-- one element of this tag, kept as its octets
+abbrev pub whole_element : ℕ → Front (List ℕ)
+whole_element tag bytes = tagged_of tag bytes >>? λ x. Some (enc tag x.0, x.1)
+
+-- octets that read as a value, kept as octets
+abbrev pub kept : {V : Type 0} → Whole V → Whole (List ℕ)
+kept whole bytes = whole bytes >>? λ _. Some bytes
+
 -- an element of this tag where it stands there, and then all of the rest (OPTIONAL before others)
 abbrev pub maybe_before : {V W : Type 0} → ℕ → Front V → Whole W → Whole (Option V × W)
 maybe_before tag front whole bytes =
     if begins_with tag bytes then (front bytes >>? λ x. whole x.1 >>? λ w. Some (Some x.0, w))
     else (whole bytes >>? λ w. Some (None, w))
+
+-- a component with a DEFAULT, and then all of the rest: it stands there exactly where its value isn't the default
+-- (X.690, section 11.5)
+abbrev pub defaulted : {V W : Type 0} → ℕ → (V → Bool) → V → Front V → Whole W → Whole (V × W)
+defaulted tag is_default default front whole =
+    mapped (λ x. (option_map_or (λ v. v) x.0 default, x.1))
+    (tested (λ x. option_map_or (λ v. not (is_default v)) x.0 true) (maybe_before tag front whole))
 
 -- ---- texts
 
@@ -86,16 +102,20 @@ abbrev pub text_if : {V : Type 0} → (V → List ℕ) → Option V → List ℕ
 text_if text None = []
 text_if text (Some v) = text v
 
+-- the text of a component with a DEFAULT: none where its value is the default (X.690, section 11.5)
+abbrev pub text_unless : {V : Type 0} → (V → Bool) → (V → List ℕ) → V → List ℕ
+text_unless is_default text v = if is_default v then [] else text v
+
 -- ---- exact readings
 
 -- reads exactly the texts of the valid values at the front of octets, whatever follows
 pub record IsFront {V : Type 0} (text : V → List ℕ) (IsValid : V → Type 0) (read : Front V) : Type 0 where
-  pub takes : (bytes : List ℕ) (x : V × List ℕ) → ((i : ℕ) → get_or bytes i 0 < 256) → read bytes ≡ Some x
+  pub takes : (bytes : List ℕ) (x : V × List ℕ) → AreOctets bytes → read bytes ≡ Some x
       → IsValid x.0 × (bytes ≡ text x.0 ++ x.1)
   pub again : (v : V) (rest : List ℕ) → IsValid v → read (text v ++ rest) ≡ Some (v, rest)
 
 -- reads exactly the texts of the valid values
 pub record IsWhole {V : Type 0} (text : V → List ℕ) (IsValid : V → Type 0) (read : Whole V) : Type 0 where
-  pub takes : (bytes : List ℕ) (v : V) → ((i : ℕ) → get_or bytes i 0 < 256) → read bytes ≡ Some v
+  pub takes : (bytes : List ℕ) (v : V) → AreOctets bytes → read bytes ≡ Some v
       → IsValid v × (bytes ≡ text v)
   pub again : (v : V) → IsValid v → read (text v) ≡ Some v

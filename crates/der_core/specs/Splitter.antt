@@ -1,10 +1,9 @@
 -- What a splitter answers to a piece of a stream.
-use Rattle.std.specs.Prelude.{◌≡◌, ℕ, ◌<◌, List, [], ◌∷◌, ◌++◌, length, take, ◌⊎◌, ◌==◌, if◌then◌else◌, Result, Err}
+use Rattle.std.specs.Prelude.{◌≡◌, ℕ, ◌<◌, List, [], ◌∷◌, ◌++◌, length, get_or, take, ◌⊎◌}
 use Rattle.der_core.specs.declared.fault.DerFault.{DerFault}
 use Rattle.der_core.specs.declared.fault.DerFault.TheVariants.{Short, Malformed}
 use Rattle.der_core.specs.declared.splitter.Step.{Step}
 use Rattle.der_core.specs.declared.splitter.Step.TheVariants.{More, Ends, Rest}
-use Rattle.der_core.specs.Reading.{length_at}
 use Rattle.der_core.specs.Items.{IsSequence, HasSequence, BeginsSequence, Splits}
 use Rattle.der_core.specs.Progress.{Progress, Sees, Declares}
 
@@ -39,7 +38,6 @@ abbrev pub IsHeadFault : DerFault → List ℕ → Type 0
 IsHeadFault Short octets = BeginsSequence octets × (length octets < 6) × ((size : ℕ) → Declares octets size → ⊥)
 IsHeadFault Malformed octets = BeginsSequence octets → ⊥
 
--- the length behind the tag 30 (hex), and what follows it, as it is read
-unfoldable pub size_at : List ℕ → Result (ℕ × List ℕ) DerFault
-size_at [] = Err Short
-size_at (tag ∷ octets) = if tag == 48 then length_at octets else Err Malformed
+-- where there is an octet, the first is this tag
+abbrev pub IsFirstTag : ℕ → List ℕ → Type 0
+IsFirstTag tag octets = 0 < length octets → get_or octets 0 0 ≡ tag

@@ -1,8 +1,12 @@
 -- Reading a time. That this is the time whose text the octets are is proved in the contract of `read_time`.
 use Rattle.std.specs.Prelude.{ℕ, ◌+◌, ◌-◌, ◌*◌, ◌^◌, List, [], ◌∷◌, length, take, slice_index, nat_lt}
 use Rattle.std.specs.Prelude.{◌==◌, ◌&&◌, ◌||◌, if◌then◌else◌, Bool, Option, Some, None}
+use Rattle.der_core.specs.declared.time_value.Time.{Time}
+use Rattle.der_core.specs.declared.time_value.TimeForm.{TimeForm}
+use Rattle.der_core.specs.declared.time_value.TimeForm.TheVariants.{Utc, Generalized}
 use Rattle.der_core.specs.Moment.{year, month, day, hour, minute, second}
-use Rattle.der_core.specs.Reading.{◌>>?◌}
+use Rattle.der_core.specs.Reading.{◌>>?◌, front_of}
+use Rattle.der_core.specs.Shapes.{Front}
 
 -- the parts of a moment are in their ranges
 unfoldable pub is_moment : ℕ → Bool
@@ -46,3 +50,16 @@ generalized_of contents = zulu_of 14 contents >>? λ number. moment_of number
 -- the moment of a time of this tag
 unfoldable pub time_of : ℕ → List ℕ → Option ℕ
 time_of tag contents = if tag == 0x17 then utc_of contents else (if tag == 0x18 then generalized_of contents else None)
+
+-- the form with this tag
+abbrev pub form_of : ℕ → Option TimeForm
+form_of tag = if tag == 0x17 then Some Utc else (if tag == 0x18 then Some Generalized else None)
+
+-- the time of this tag with these contents
+unfoldable pub form_and_moment_of : ℕ → List ℕ → Option Time
+form_and_moment_of tag contents =
+    form_of tag >>? λ form. time_of tag contents >>? λ moment. Some (record { form = form; moment = moment })
+
+-- the time that the element at the front is
+unfoldable pub time_at : Front Time
+time_at bytes = front_of bytes >>? λ x. form_and_moment_of x.0 x.1.0 >>? λ time. Some (time, x.1.1)

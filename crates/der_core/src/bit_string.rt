@@ -43,13 +43,10 @@ mod tests {
     fn bit_strings_are_read(rt: HostRuntime) {
         for (contents, unused) in [
             (b"\x04\x0a\x3b\x5f\x29\x1c\xd0".as_slice(), Some(4)),
-            (b"\x00", Some(0)),
             (b"\x00\xff", Some(0)),
             (b"\x07\x80", Some(7)),
-            (b"\x01\xfe", Some(1)),
             (b"", None),
             (b"\x01", None),
-            (b"\x01\xff", None),
             (b"\x07\xc0", None),
             (b"\x08\x00", None),
         ] {

@@ -32,7 +32,6 @@ mod tests {
             (b"\xff".as_slice(), Some(true)),
             (b"\x00", Some(false)),
             (b"\x01", None),
-            (b"\xfe", None),
             (b"", None),
             (b"\xff\xff", None),
         ] {

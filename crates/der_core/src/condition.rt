@@ -110,7 +110,7 @@ mod tests {
     use super::*;
     use std::test::Fail;
 
-    // The codes by the numbers of RFC 4108, section 5, for each condition in turn.
+    // The codes by the numbers of RFC 4108, section 4.1.3, for each condition in turn.
     const CODES: [u8; 41] = [
         1, 33, 2, 2, 3, 4, 22, 24, 4, 9, 3, 5, 3, 6, 8, 7, 12, 13, 7, 16, 15, 10, 5, 5, 5, 14, 5,
         11, 15, 27, 29, 30, 28, 31, 32, 36, 34, 33, 99, 99, 99,

@@ -1,8 +1,8 @@
 ghost use Rattle.std.specs.Prelude.{◌≡◌, ◌<◌, ◌++◌, ◌==◌, length, OnSome, IfSome, IfNone};
-ghost use Rattle.der_core.specs.Element.{enc, IsElement, HasElement, HasTagged};
+ghost use Rattle.der_core.specs.Element.{enc, IsElement, IsTagged, HasElement, HasTagged};
 ghost use Rattle.der_core.specs.Reading.{front_of, tagged_of};
 ghost use Rattle.der_core.specs.Reads.{Answers};
-ghost use Rattle.der_core.specs.Shapes.{begins_with};
+ghost use Rattle.der_core.specs.Shapes.{begins_with, whole_element};
 
 use crate::tlv::split_element;
 use std::marker::Model;
@@ -24,21 +24,28 @@ impl<'a> Model for Cursor<'a> {
 impl<'a> Cursor<'a> {
     /// A cursor at the front of the octets.
     pub fn new(bytes: &'a [u8]) -> Cursor<'a>
-        ensures { result ≡ bytes.now }
+        ensures all { result ≡ bytes.now }
     {
         Cursor { rest: bytes }
     }
 
+    /// The octets that haven't been passed.
+    pub fn rest(&self) -> &'a [u8]
+        ensures rest { result.now ≡ self.now }
+    {
+        self.rest
+    }
+
     /// Whether all of the octets have been passed.
     pub fn at_end(&self) -> bool
-        ensures { result ≡ (length self.now == 0) }
+        ensures end { result ≡ (length self.now == 0) }
     {
         self.rest.is_empty()
     }
 
     /// Whether this tag stands at the front. No whole element need stand there.
     pub fn is_at(&self, tag: u8) -> bool
-        ensures { result ≡ begins_with tag self.now }
+        ensures first { result ≡ begins_with tag self.now }
     {
         match self.rest {
             [] => false,
@@ -85,6 +92,24 @@ impl<'a> Cursor<'a> {
         }
         self.rest = ahead.rest;
         Some(contents)
+    }
+
+    /// Passes the next element where its tag is this one, and gives the whole of it. None, and the
+    /// cursor stays, exactly where no element of this tag stands at the front.
+    pub fn whole(&mut self, tag: u8) -> Option<&'a [u8]>
+        ensures element { IfSome result (λ whole. IsTagged tag whole.now
+            × (self.old ≡ whole.now ++ self.new)) }
+        ensures shorter { OnSome result (length self.new < length self.old) }
+        ensures absent { IfNone result (HasTagged tag self.old → ⊥) }
+        ensures none { IfNone result (self.new ≡ self.old) }
+        ensures exact { Answers (λ whole. (whole.now, self.new)) result
+            (whole_element tag self.old) }
+    {
+        let before = self.rest;
+        match self.tagged(tag) {
+            Some(_) => Some(&before[..before.len() - self.rest.len()]),
+            None => None,
+        }
     }
 }
 

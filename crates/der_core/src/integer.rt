@@ -34,16 +34,11 @@ mod tests {
     fn integers_are_read(rt: HostRuntime) {
         for (contents, good) in [
             (b"\x00".as_slice(), true),
-            (b"\x7f", true),
             (b"\x00\x80", true),
-            (b"\x80", true),
             (b"\xff\x7f", true),
-            (b"\xff", true),
             (b"\x80\x00", true),
-            (b"\x00\x00", false),
             (b"\x00\x7f", false),
             (b"\xff\x80", false),
-            (b"\xff\xff", false),
             (b"", false),
         ] {
             let octets = if good { Some(contents) } else { None };

@@ -1,18 +1,22 @@
 //! Laws of the definitions, which no call computes.
 
-ghost use Rattle.std.specs.Prelude.{◌≡◌, ◌↔◌, ◌++◌, ◌<◌, ◌^◌, ℕ, ℤ, List, Some, All, IsTrue, length};
-ghost use Rattle.std.specs.List.{AllByRecursion, flat_map};
+ghost use Rattle.der_core.specs.declared.time_value.Time.{Time};
+ghost use Rattle.std.specs.Prelude.{◌≡◌, ◌↔◌, ◌++◌, ◌<◌, ◌^◌, ℕ, ℤ, List, Some, IsTrue, length};
+ghost use Rattle.std.specs.List.{AllByRecursion, concat, flat_map};
 ghost use Rattle.der_core.specs.Attribute.{AreElements, Attribute, attribute_text, IsAttribute};
 ghost use Rattle.der_core.specs.AttributeReading.{are_elements};
-ghost use Rattle.der_core.specs.Element.{enc, IsElement};
-ghost use Rattle.der_core.specs.Integer.{IsInteger, AreOctets, twos_complement, integer_contents};
+ghost use Rattle.der_core.specs.Element.{enc, AreOctets, IsElement};
+ghost use Rattle.der_core.specs.Integer.{IsInteger, twos_complement, integer_contents};
 ghost use Rattle.der_core.specs.Integer.{IsLeastSpelling};
 ghost use Rattle.der_core.specs.Items.{IsItems, items, last_item, Splits};
 ghost use Rattle.der_core.specs.Moment.{IsMoment};
 ghost use Rattle.der_core.specs.Number.{number_contents, IsFewest};
 ghost use Rattle.der_core.specs.Objects.{oid_contents, AreSmall, IsOid};
 ghost use Rattle.der_core.specs.Reading.{subidentifiers_of, front_of, number_of, oid_of};
+ghost use Rattle.der_core.specs.Shapes.{IsOneElement};
 ghost use Rattle.der_core.specs.Time.{utc_text, IsUtc, generalized_text, time_tag, time_contents};
+ghost use Rattle.der_core.specs.Shapes.{IsOneElement};
+ghost use Rattle.der_core.specs.Time.{IsTime, time_text};
 ghost use Rattle.der_core.specs.TimeReading.{time_of};
 
 /// No element begins another, so octets begin with at most one (X.690, section 8.1).
@@ -85,7 +89,7 @@ pub fn written_time_is_read()
 /// (a SEQUENCE is an element of X.690, section 8.9).
 pub fn one_list_of_items()
     ensures read { (octets : List ℕ)
-        → All (λ octet. octet < 256) octets → IsItems octets (items octets) }
+        → AreOctets octets → IsItems octets (items octets) }
     ensures only { (octets : List ℕ) (these those : List (List ℕ))
         → IsItems octets these → IsItems octets those → these ≡ those }
     ensures joined { (octets : List ℕ) (these : List (List ℕ))
@@ -103,11 +107,27 @@ pub fn items_of_stream()
         → Splits stream ended so_far → IsItems stream (ended ++ last_item so_far) }
 {}
 
-/// Different moments have different texts in each form.
+/// Different moments have different texts in each form, and different times have different texts.
 pub fn one_time()
     ensures utc { (m n : ℕ) → IsUtc m → IsUtc n → utc_text m ≡ utc_text n → m ≡ n }
     ensures generalized { (m n : ℕ) → IsMoment m → IsMoment n
         → generalized_text m ≡ generalized_text n → m ≡ n }
+    ensures text { (t u : Time) → IsTime t → IsTime u → time_text t ≡ time_text u → t ≡ u }
+{}
+
+/// A stream has been split in one way so far: into the items that have ended, and what the next one
+/// has had.
+pub fn one_split()
+    ensures { (stream so_far so_far' : List ℕ) (ended ended' : List (List ℕ))
+        → Splits stream ended so_far → Splits stream ended' so_far'
+        → (ended ≡ ended') × (so_far ≡ so_far') }
+{}
+
+/// Octets are one list of elements at most.
+pub fn one_list_of_elements()
+    ensures { (these those : List (List ℕ))
+        → AllByRecursion IsOneElement these → AllByRecursion IsOneElement those
+        → concat these ≡ concat those → these ≡ those }
 {}
 
 /// Different attributes have different texts.

@@ -6,8 +6,11 @@
 //!
 //! - `read_tlv` finds the one element at the front of octets (`found`). Where there is none, it
 //!   tells octets that begin an element from those that never do (`fault`).
-//! - `Cursor` passes octets element by element: `next` passes any (`element`, `none`), and `tagged`
-//!   only one of a given tag (`element`, `absent`). Where neither passes one, it stays.
+//! - `read_head` and `read_length` read the head of an element, or its length, without the contents
+//!   (`found`), and tell what can go on to begin so from what can't (`fault`).
+//! - `Cursor` passes octets element by element: `next` passes any (`element`, `none`), `tagged` and
+//!   `whole` only one of a given tag (`element`, `absent`). Where none is passed, it stays.
+//!   `Cursor::rest` is what hasn't been passed (`rest`).
 //! - `read_u128` answers the number that the contents of an INTEGER spell (`spelled`).
 //! - `read_oid` answers an identifier exactly where the contents are one (`found`). The octets of
 //!   each `Oid` are such contents (`spelled`), and `Oid::subidentifiers` are the numbers that they
@@ -24,7 +27,8 @@
 //!   INTEGER of either sign (as its octets) and of a BIT STRING spell (`spelled`).
 //! - `Moment::new` takes a number of fourteen digits exactly where each part is in its range
 //!   (`found`). `read_time` answers the moment that a UTCTime (`utc`) or a GeneralizedTime spells
-//!   (`generalized`), and none for another tag (`other`).
+//!   (`generalized`), and none for another tag (`other`). `Time::read` answers the moment with its
+//!   form (`found`): a time has one text, while most moments can be written in either form.
 //! - `read_attr` answers the attribute whose text an element is (`spelled`), and `Attr::one_value`
 //!   its value where there is exactly one (`spelled`, `whole`). The type keeps that values are
 //!   elements one after the other (`elements`).
@@ -33,11 +37,13 @@
 //!   the code of RFC 4108 that a failing one is answered with (`error`, `code`).
 //! - `specs/Asked` says of conditions in an order that all hold, or that one is the first that fails.
 //! - `laws` has what follows from the definitions alone: no element begins another, contents are
-//!   the fewest octets, different values have different texts, and a text is read as its value.
+//!   the fewest octets, different values have different texts, a text is read as its value, octets
+//!   are one list of elements, and a stream is split in one way.
 //!
 //! Each reader has one more clause, `exact`: its answer is what a function of `specs/Reading`
 //! gives. From those functions the shapes of `specs/Shapes` put longer readings together, and their
-//! laws in `proofs/Shapes` turn `exact` into `spelled`. Who reads contracts can pass over both.
+//! laws in `proofs/Shapes` and `proofs/Components` turn `exact` into `spelled`. Who reads contracts
+//! can pass over both.
 //!
 //! Below it stands std alone. `package_attrs` and every other reader of CMS texts stands above it.
 //!
@@ -53,8 +59,10 @@ mod condition;
 mod cursor;
 mod fault;
 mod first_octets;
+mod head;
 mod integer;
 pub mod laws;
+mod length;
 mod load_error;
 mod moment;
 mod number;
@@ -65,6 +73,7 @@ mod read_attribute;
 mod splitter;
 pub mod tags;
 mod time;
+mod time_value;
 mod tlv;
 
 pub use attribute::Attr;
@@ -73,6 +82,7 @@ pub use boolean::read_bool;
 pub use condition::Condition;
 pub use cursor::Cursor;
 pub use fault::DerFault;
+pub use head::{read_head, read_length};
 pub use integer::read_int_octets;
 pub use load_error::LoadErrorCode;
 pub use moment::Moment;
@@ -83,4 +93,5 @@ pub use pieces::split_pieces;
 pub use read_attribute::read_attr;
 pub use splitter::{Splitter, Step, declared, split_step};
 pub use time::read_time;
+pub use time_value::{Time, TimeForm};
 pub use tlv::{Tlv, read_tlv};

@@ -1,7 +1,7 @@
 ghost use Rattle.std.specs.Prelude.{◌≡◌};
 ghost use Rattle.der_core.specs.LoadError.{error_number};
 
-/// Why a firmware package wasn't loaded, by the names of RFC 4108, section 5.
+/// Why a firmware package wasn't loaded, by the names of RFC 4108, section 4.1.3.
 ///
 /// These are the codes that a condition of acceptance is answered with. The others of that list
 /// speak of encrypted or compressed contents, or of parameters, and no condition has them.

@@ -29,7 +29,7 @@ impl Model for Octets64 {
 impl Octets64 {
     /// The octets, where there are at most 64 of them.
     pub fn new(octets: &[u8]) -> Option<Octets64>
-        ensures { SomeIff result (length octets.now ≤ 64) octets.now }
+        ensures kept { SomeIff result (length octets.now ≤ 64) octets.now }
     {
         if octets.len() > 64 {
             return None;

@@ -11,7 +11,7 @@ use std::mem;
 /// The items of the stream that comes in these pieces. They are those of the octets one after the
 /// other, so it doesn't matter how the stream is cut.
 pub fn split_pieces(alloc: Global, pieces: &[&[u8]]) -> Result<Vec<Vec<u8>>, AllocError>
-    ensures { IfOk result (λ parts. IsItems (flat_map (λ piece. piece.now) pieces.now)
+    ensures items { IfOk result (λ parts. IsItems (flat_map (λ piece. piece.now) pieces.now)
         (map (λ item. item.items) parts.items)) }
 {
     let mut splitter = Splitter::new();

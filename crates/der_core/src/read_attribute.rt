@@ -85,10 +85,7 @@ mod tests {
             (b"\x30\x07\x06\x01\x2a\x31\x00\x05\x00", None, None),
             (b"\x30\x06\x06\x01\x2a\x31\x01\x05", None, None),
             (b"\x30\x05\x06\x01\x80\x31\x00", None, None),
-            (b"\x30\x05\x06\x01\x2a\x30\x00", None, None),
             (b"\x31\x05\x06\x01\x2a\x31\x00", None, None),
-            (b"\x30\x03\x06\x01\x2a", None, None),
-            (b"\x30\x02\x31\x00", None, None),
             (b"", None, None),
         ] {
             let Some(attribute) = read_attr(element) else {

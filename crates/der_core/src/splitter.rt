@@ -1,13 +1,13 @@
 // A stream is split into items, in whatever pieces it comes.
-ghost use Rattle.std.specs.Prelude.{◌≡◌, ◌↔◌, ◌<◌, ◌≤◌, ℕ, List, [], length, IsTrue, IfOk, IfErr, MatchResult, Some, Ok, Err};
+ghost use Rattle.std.specs.Prelude.{◌≡◌, ◌↔◌, ◌<◌, ◌≤◌, ℕ, List, [], length, IsTrue, IfOk, IfErr, Some};
 ghost use Rattle.der_core.specs.Items.{HasSequence};
 ghost use Rattle.der_core.specs.Progress.{Sees, Declares, HasEnded, sequence_size};
-ghost use Rattle.der_core.specs.Splitter.{Awaits, IsStep, IsHeadFault, Stands, StandsAfter, size_at};
+ghost use Rattle.der_core.specs.Splitter.{Awaits, IsStep, IsFirstTag, IsHeadFault, Stands, StandsAfter};
 
 use crate::fault::DerFault;
 use crate::first_octets::FirstOctets;
+use crate::head::read_head;
 use crate::tags;
-use crate::tlv::read_length;
 use std::marker::Model;
 
 /// What a piece of a stream is to the item that has come so far. An item is a SEQUENCE (X.690,
@@ -60,7 +60,7 @@ impl Splitter {
     fn has_ended(&self) -> bool
         ensures { IsTrue result ↔ HasEnded self.now }
     {
-        match read_head(self.head.octets()) {
+        match sequence_head(self.head.octets()) {
             Ok((size, _)) => self.count == Some(size),
             Err(_) => false,
         }
@@ -78,7 +78,7 @@ impl Splitter {
         let Some(count) = self.count else {
             return Step::Rest;
         };
-        match read_head(self.head.octets()) {
+        match sequence_head(self.head.octets()) {
             Ok((size, _)) => {
                 let left = size.saturating_sub(count);
                 if left > piece.len() as u64 {
@@ -132,42 +132,40 @@ pub fn split_step(splitter: &mut Splitter, piece: &[u8]) -> Step
 /// item that has ended, until the next octet comes. None exactly where what the item has so far
 /// doesn't begin with tag 30 (hex) and a whole length.
 pub fn declared(splitter: &Splitter) -> Option<u32>
-    ensures { (item : List ℕ) → Sees splitter.now item
+    ensures declared { (item : List ℕ) → Sees splitter.now item
         → (size : ℕ) → (result ≡ Some size) ↔ Declares item size }
 {
-    match read_head(splitter.head.octets()) {
+    match sequence_head(splitter.head.octets()) {
         Ok((_, size)) => Some(size),
         Err(_) => None,
     }
 }
 
 // The size of the SEQUENCE that begins so, and how much of it is contents.
-fn read_head(octets: &[u8]) -> Result<(u64, u32), DerFault>
+fn sequence_head(octets: &[u8]) -> Result<(u64, u32), DerFault>
     ensures found { IfOk result (λ x. Declares octets.now x.1 × (x.0 ≡ sequence_size x.1)) }
     ensures fault { IfErr result (λ fault. IsHeadFault fault octets.now) }
 {
-    match read_size(octets) {
-        Ok((size, contents)) => {
-            let whole = octets.len() - contents.len() + size;
-            Ok((whole as u64, size as u32))
+    if !can_begin_sequence(octets) {
+        return Err(DerFault::Malformed);
+    }
+    match read_head(octets) {
+        Ok((_, size, contents)) => {
+            let head = octets.len() - contents.len();
+            Ok((head as u64 + u64::from(size), size))
         }
         Err(fault) => Err(fault),
     }
 }
 
-// The length after the tag of a SEQUENCE, and what follows it.
-#[tactic(auto, unfolding(crate::specs::Splitter::size_at))]
-fn read_size(octets: &[u8]) -> Result<(usize, &[u8]), DerFault>
-    ensures { MatchResult result
-        (λ x. size_at octets.now ≡ Ok (x.0, x.1.now)) (λ e. size_at octets.now ≡ Err e) }
+// Whether no other tag stands first.
+fn can_begin_sequence(octets: &[u8]) -> bool
+    ensures { IsTrue result ↔ IsFirstTag 0x30 octets.now }
 {
-    let [tag, rest @ ..] = octets else {
-        return Err(DerFault::Short);
-    };
-    if *tag != tags::SEQUENCE {
-        return Err(DerFault::Malformed);
+    match octets {
+        [] => true,
+        [tag, ..] => *tag == tags::SEQUENCE,
     }
-    read_length(rest)
 }
 
 #[cfg(test)]

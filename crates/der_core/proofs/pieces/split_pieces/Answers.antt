@@ -17,11 +17,15 @@ returns c =
           w.ended-is
           ∙ ap (map (λ (item : Vec ℕ Global). item.items)) w.in_ok-push.ensures.items
           ∙ map-append (λ (item : Vec ℕ Global). item.items) c.loop-piece.ended.items (c.loop-piece.item ∷ []) in
-          items_some _ _ _ _ c.loop-piece.item.items same all
-          (size ∙ sym c.is_empty.ensures ∙ w.if-not-is_empty.true) is
+          record {
+            items = items_some _ _ _ _ c.loop-piece.item.items same all
+                (size ∙ sym c.is_empty.ensures ∙ w.if-not-is_empty.true) is;
+          }
       | else-not-is_empty w ↦
           let is = ap (λ (v : Vec (Vec ℕ Global) Global). map (λ (item : Vec ℕ Global). item.items) v.items)
           w.ended-is in
-          items_none _ _ _ _ c.loop-piece.item.items same all
-          (size ∙ sym c.is_empty.ensures ∙ w.if-not-is_empty.false) is
+          record {
+            items = items_none _ _ _ _ c.loop-piece.item.items same all
+                (size ∙ sym c.is_empty.ensures ∙ w.if-not-is_empty.false) is;
+          }
     ]

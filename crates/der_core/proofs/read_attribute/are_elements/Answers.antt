@@ -9,10 +9,10 @@ loop-cursor-preserved c = c.loop-cursor.invariant ∙ more c.loop-cursor.cursor 
 
 pub returns-in_default : goal.returns-in_default
 returns-in_default c =
-    let some = some_left c.loop-cursor.cursor c.at_end.result c.at_end.ensures c.loop-cursor-test.true in
+    let some = some_left c.loop-cursor.cursor c.at_end.result c.at_end.ensures.end c.loop-cursor-test.true in
     sym (c.loop-cursor.invariant ∙ stops c.loop-cursor.cursor some c.in_default.ensures.exact)
 
 pub returns : goal.returns
 returns c =
-    let none = none_left c.loop-cursor.cursor c.at_end.result c.at_end.ensures c.loop-cursor-test.false in
+    let none = none_left c.loop-cursor.cursor c.at_end.result c.at_end.ensures.end c.loop-cursor-test.false in
     sym (c.loop-cursor.invariant ∙ ap are_elements none ∙ ends)
