@@ -10,7 +10,7 @@ use Rattle.der_core.specs.Element.{enc, IsElement}
 use Rattle.der_core.specs.Reading.{◌>>?◌, front_of}
 use Rattle.der_core.specs.Reads.{Answers}
 use Rattle.der_core.specs.Shapes.{IsFront, IsWhole}
-use Rattle.der_core.specs.Time.{form_tag, form_contents, IsInForm, IsTime, time_text}
+use Rattle.der_core.specs.Time.{form_tag, form_contents, IsInForm, IsTime, time_text, written_form, time_tag, time_contents}
 use Rattle.der_core.specs.TimeReading.{time_of, form_of, form_and_moment_of, time_at}
 use Rattle.der_core.proofs.Digits.{AreOctets}
 use Rattle.der_core.proofs.Element.{element_takes}
@@ -117,3 +117,7 @@ pub one_text : (t u : Time) → IsTime t → IsTime u → time_text t ≡ time_t
 one_text t u h k e = ap (λ (x : Time × List ℕ). x.0)
     (some_is (t, []) (u, []) (sym (time-front.again t [] h) ∙ ap (λ (x : List ℕ). time_at (x ++ [])) e
     ∙ time-front.again u [] k))
+
+-- the element of a moment that is written
+pub written_element : (moment : ℕ) → IsElement (time_tag moment) (time_contents moment)
+written_element moment = time_element (record { form = written_form moment; moment = moment })

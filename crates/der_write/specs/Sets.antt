@@ -14,6 +14,10 @@ pub record Ascends (parts ordered : List (List ℕ)) : Type 0 where
   pub same : IsPermutation parts ordered
   pub ascending : IsSorted (slice_cmp nat_cmp) ordered
 
+-- The octets are the parts one after the other, in ascending order: the contents of their SET, whatever its tag.
+abbrev pub IsSetContents : List (List ℕ) → List ℕ → Type 0
+IsSetContents parts octets = (ordered : List (List ℕ)) × Ascends parts ordered × (octets ≡ joined ordered)
+
 -- The octets are the SET of these parts, in ascending order.
 abbrev pub IsSetOf : List (List ℕ) → List ℕ → Type 0
-IsSetOf parts octets = (ordered : List (List ℕ)) × Ascends parts ordered × (octets ≡ enc 0x31 (joined ordered))
+IsSetOf parts octets = (contents : List ℕ) × IsSetContents parts contents × (octets ≡ enc 0x31 contents)

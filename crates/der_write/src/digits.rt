@@ -10,6 +10,7 @@ pub(crate) const ROOM: usize = 17;
 // Writes the digits of a number into the end of the buffer, and answers where they begin.
 fn write_digits(buffer: &mut [u8], number: u128) -> usize
     requires { length buffer.old ≡ 17 }
+    ensures length { length buffer.new ≡ 17 }
     ensures digits { drop result buffer.new ≡ digits_of 256 number }
     ensures low { 1 ≤ result }
     ensures high { result ≤ 17 }
@@ -41,9 +42,9 @@ pub(crate) fn write_number(buffer: &mut [u8], number: u128) -> usize
 
 // Writes the octets of a length (X.690, section 10.1), and answers where they begin.
 #[tactic(auto, unfolding(der_core::specs::Element::length_octets))]
-pub(crate) fn write_length(buffer: &mut [u8], size: usize) -> usize
-    requires room { length buffer.old ≡ 17 }
-    requires size { size < 2 ^ 32 }
+pub(crate) fn write_length(buffer: &mut [u8], size: u32) -> usize
+    requires { length buffer.old ≡ 17 }
+    ensures length { length buffer.new ≡ 17 }
     ensures octets { drop result buffer.new ≡ length_octets size }
     ensures low { 12 ≤ result }
     ensures high { result ≤ 17 }

@@ -1,8 +1,9 @@
 ghost use Rattle.std.specs.Prelude.{◌≡◌, ◌++◌, ◌<◌, ◌^◌, ℕ, List, length, map, OnOk, OnErr, IfOk};
 ghost use Rattle.std.specs.List.{flat_map};
-ghost use Rattle.der_write.specs.Sets.{joined, IsSetOf, Ascends};
+ghost use Rattle.der_write.specs.Sets.{joined, IsSetContents, IsSetOf, Ascends};
 
-use crate::put_tlv;
+use crate::element::put_tlv;
+use der_core::tags;
 use std::alloc::{AllocError, Global};
 
 // The parts, in ascending order of their octets.
@@ -29,6 +30,17 @@ fn together(alloc: Global, parts: &[&[u8]]) -> Result<Vec<u8>, AllocError>
     Ok(all)
 }
 
+/// The contents of a SET OF the parts, each of them one element, in whatever order they come: the
+/// parts in ascending order of their octets (X.690, section 11.6). The tag is the caller's to put
+/// before them, as where a SET is tagged implicitly.
+pub fn sorted_contents(alloc: Global, parts: &[Vec<u8>]) -> Result<Vec<u8>, AllocError>
+    ensures ok { IfOk result (λ contents.
+        IsSetContents (map (λ part. part.items) parts.now) contents.items) }
+{
+    let order = ordered(alloc, parts)?;
+    together(alloc, &order)
+}
+
 /// Appends a SET OF the parts, each of them one element, in ascending order of their octets, in
 /// whatever order they come (X.690, section 11.6).
 pub fn put_set_sorted(alloc: Global, out: &mut Vec<u8>, parts: &[Vec<u8>]) -> Result<(), AllocError>
@@ -37,7 +49,6 @@ pub fn put_set_sorted(alloc: Global, out: &mut Vec<u8>, parts: &[Vec<u8>]) -> Re
         × (out.new.items ≡ out.old.items ++ set)) }
     ensures err { OnErr result (out.new.items ≡ out.old.items) }
 {
-    let order = ordered(alloc, parts)?;
-    let contents = together(alloc, &order)?;
-    put_tlv(alloc, out, 0x31, &contents)
+    let contents = sorted_contents(alloc, parts)?;
+    put_tlv(alloc, out, tags::SET, &contents)
 }

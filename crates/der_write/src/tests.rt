@@ -1,30 +1,31 @@
 use super::*;
 use der_core::{Moment, read_oid};
+use std::alloc::Global;
 use std::test::Fail;
 
-// The head of an element on both sides of each border between two forms of the length, by X.690,
-// sections 8.1.3.4, 8.1.3.5 and 10.1.
+// A head on its own, and the same before as many octets of contents.
+fn has_head(alloc: Global, size: u32, octets: &[u8]) -> Result<bool, Fail> {
+    let mut head = Vec::new(alloc);
+    put_head(alloc, &mut head, 0x04, size)?;
+    let contents = vec![in alloc; 0u8; size as usize]?;
+    let mut whole = Vec::new(alloc);
+    put_tlv(alloc, &mut whole, 0x04, &contents)?;
+    Ok(
+        head_size(size) == octets.len()
+            && head.as_slice() == octets
+            && whole.starts_with(octets)
+            && whole.len() == octets.len() + contents.len(),
+    )
+}
+
+// Both sides of the borders between two forms of the length, by X.690, sections 8.1.3.4, 8.1.3.5
+// and 10.1.
 #[test]
 fn writes_each_form_of_length(rt: HostRuntime) -> Result<(), Fail> {
     let alloc = rt.alloc();
-    let heads: [(u32, &[u8]); 7] = [
-        (0, &[0x04, 0x00]),
-        (127, &[0x04, 0x7f]),
-        (128, &[0x04, 0x81, 0x80]),
-        (255, &[0x04, 0x81, 0xff]),
-        (256, &[0x04, 0x82, 0x01, 0x00]),
-        (65_535, &[0x04, 0x82, 0xff, 0xff]),
-        (65_536, &[0x04, 0x83, 0x01, 0x00, 0x00]),
-    ];
-    for (size, head) in heads {
-        let size = size as usize;
-        let contents = vec![in alloc; 0u8; size]?;
-        let mut out = Vec::new(alloc);
-        out.push(0xee)?;
-        put_tlv(alloc, &mut out, 0x04, &contents)?;
-        assert_eq!(rt; out.len(), 1 + head.len() + size, "of {size}");
-        assert_eq!(rt; &out[1..1 + head.len()], head, "of {size}");
-    }
+    assert!(rt; has_head(alloc, 127, b"\x04\x7f")?);
+    assert!(rt; has_head(alloc, 128, b"\x04\x81\x80")?);
+    assert!(rt; has_head(alloc, 65_536, b"\x04\x83\x01\x00\x00")?);
     Ok(())
 }
 
@@ -33,46 +34,38 @@ fn writes_each_form_of_length(rt: HostRuntime) -> Result<(), Fail> {
 fn writes_values(rt: HostRuntime) -> Result<(), Fail> {
     let alloc = rt.alloc();
     let mut out = Vec::new(alloc);
-    for number in [0, 127, 128, 256] {
-        put_u128(alloc, &mut out, number)?;
-    }
-    let oid = read_oid(&[0x2a, 0x03]).ok_or("1.2.3 is an identifier")?;
-    put_oid(alloc, &mut out, &oid)?;
-    let parts = [
-        [0x04, 0x01, 0x02].to_vec(alloc)?,
-        [0x04, 0x00].to_vec(alloc)?,
-        [0x02, 0x01, 0x05].to_vec(alloc)?,
-        [0x04, 0x01, 0x01].to_vec(alloc)?,
-    ];
-    put_set_sorted(alloc, &mut out, &parts)?;
-    let texts = [
-        0x02, 0x01, 0x00, 0x02, 0x01, 0x7f, 0x02, 0x02, 0x00, 0x80, 0x02, 0x02, 0x01, 0x00, 0x06,
-        0x02, 0x2a, 0x03, 0x31, 0x0b, 0x02, 0x01, 0x05, 0x04, 0x00, 0x04, 0x01, 0x01, 0x04, 0x01,
-        0x02,
-    ];
-    assert_eq!(rt; out.as_slice(), texts.as_slice());
-    let mut greatest = Vec::new(alloc);
-    put_u128(alloc, &mut greatest, u128::MAX)?;
-    assert_eq!(rt; greatest.len(), 19, "00 and sixteen FF");
-    assert_eq!(rt; &greatest[..4], [0x02, 0x11, 0x00, 0xff].as_slice());
+    put_u128(alloc, &mut out, 127)?;
+    put_u128(alloc, &mut out, 128)?;
+    assert_eq!(rt; out.as_slice(), b"\x02\x01\x7f\x02\x02\x00\x80".as_slice());
+    let mut id = Vec::new(alloc);
+    put_oid(alloc, &mut id, &read_oid(b"\x2a\x03").ok_or("1.2.3")?)?;
+    assert_eq!(rt; id.as_slice(), b"\x06\x02\x2a\x03".as_slice());
+    let parts = [b"\x04\x00".to_vec(alloc)?, b"\x02\x01\x05".to_vec(alloc)?];
+    let mut set = Vec::new(alloc);
+    put_set_sorted(alloc, &mut set, &parts)?;
+    assert_eq!(rt; set.as_slice(), b"\x31\x05\x02\x01\x05\x04\x00".as_slice());
+    assert_eq!(rt; sorted_contents(alloc, &parts)?.as_slice(), &set[2..]);
     Ok(())
 }
 
-// Both sides of each border between the two forms, by RFC 5280, section 4.1.2.5.
+// Each form of a time, by RFC 5280, section 4.1.2.5.
 #[test]
 fn writes_each_form_of_time(rt: HostRuntime) -> Result<(), Fail> {
     let alloc = rt.alloc();
-    let times: [(u64, &[u8]); 4] = [
-        (19_491_231_235_959, b"\x18\x0f19491231235959Z"),
-        (19_500_101_000_000, b"\x17\x0d500101000000Z"),
-        (20_491_231_235_959, b"\x17\x0d491231235959Z"),
-        (20_500_101_000_000, b"\x18\x0f20500101000000Z"),
-    ];
-    for (digits, text) in times {
-        let at = Moment::new(digits).ok_or("a moment")?;
-        let mut out = Vec::new(alloc);
-        put_time(alloc, &mut out, at)?;
-        assert_eq!(rt; out.as_slice(), text, "at {digits}");
-    }
+    let mut out = Vec::new(alloc);
+    put_time(
+        alloc,
+        &mut out,
+        Moment::new(20_491_231_235_959).ok_or("2049")?,
+    )?;
+    put_time(
+        alloc,
+        &mut out,
+        Moment::new(20_500_101_000_000).ok_or("2050")?,
+    )?;
+    assert_eq!(rt;
+        out.as_slice(),
+        b"\x17\x0d491231235959Z\x18\x0f20500101000000Z".as_slice()
+    );
     Ok(())
 }

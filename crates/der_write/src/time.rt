@@ -3,7 +3,7 @@ ghost use Rattle.der_core.specs.Element.{enc};
 ghost use Rattle.der_core.specs.Time.{last_digits, utc_text, generalized_text};
 ghost use Rattle.der_core.specs.Time.{time_tag, time_contents};
 
-use crate::put_tlv;
+use crate::element::put_tlv;
 use der_core::{Moment, tags};
 use std::alloc::{AllocError, Global};
 

@@ -3,13 +3,13 @@ ghost use Rattle.der_core.specs.Element.{enc};
 ghost use Rattle.der_core.specs.Number.{number_contents};
 
 use crate::digits::{ROOM, write_number};
-use crate::put_tlv;
+use crate::element::put_tlv;
 use der_core::{Oid, tags};
 use std::alloc::{AllocError, Global};
 
 /// Appends an OBJECT IDENTIFIER (X.690, section 8.19).
 pub fn put_oid(alloc: Global, out: &mut Vec<u8>, oid: &Oid) -> Result<(), AllocError>
-    ensures ok { OnOk result (out.new.items ≡ out.old.items ++ enc 6 oid.now) }
+    ensures ok { OnOk result (out.new.items ≡ out.old.items ++ enc 0x06 oid.now) }
     ensures err { OnErr result (out.new.items ≡ out.old.items) }
 {
     put_tlv(alloc, out, tags::OBJECT_IDENTIFIER, oid.octets())
@@ -17,7 +17,7 @@ pub fn put_oid(alloc: Global, out: &mut Vec<u8>, oid: &Oid) -> Result<(), AllocE
 
 /// Appends an INTEGER that isn't negative, in the fewest octets (X.690, section 8.3).
 pub fn put_u128(alloc: Global, out: &mut Vec<u8>, number: u128) -> Result<(), AllocError>
-    ensures ok { OnOk result (out.new.items ≡ out.old.items ++ enc 2 (number_contents number)) }
+    ensures ok { OnOk result (out.new.items ≡ out.old.items ++ enc 0x02 (number_contents number)) }
     ensures err { OnErr result (out.new.items ≡ out.old.items) }
 {
     let mut buffer = [0; ROOM];

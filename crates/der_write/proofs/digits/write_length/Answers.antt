@@ -11,7 +11,7 @@ unfolding length_octets
 returns-then-size-lt128-clause-octets c =
     let buffer = c.args.buffer.now in
     rw (lt-ltb c.args.size 128 c.if-size-lt128.true)
-    (drop-set_at buffer 16 16 c.args.size refl (omega (arith, c.requires.room)) ∙ ap (λ (ds : List ℕ). c.args.size ∷ ds) (drop_all 17 buffer (omega (arith, c.requires.room))))
+    (drop-set_at buffer 16 16 c.args.size refl (omega (arith, c.requires)) ∙ ap (λ (ds : List ℕ). c.args.size ∷ ds) (drop_all 17 buffer (omega (arith, c.requires))))
 
 pub returns-clause-low : goal.returns-clause-low
 returns-clause-low c =

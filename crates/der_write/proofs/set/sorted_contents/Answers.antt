@@ -1,0 +1,28 @@
+use Rattle.std.proofs.Common.{◌≡◌, List, ℕ, ap, sym, ◌∙◌, map, Bor, Vec, Global, Result, Ok, Err}
+use Rattle.std.specs.Prelude.{IfOk}
+use Rattle.std.specs.List.{flat_map}
+use Rattle.std.proofs.lemmas.List.Folds.{flat_map-map}
+use Rattle.der_write.specs.Sets.{joined, Ascends, IsSetContents}
+use Rattle.der_write.proofs.set.sorted_contents.Goals as goal
+
+-- the slices one after the other are their octets one after the other
+joined_slices : (order : List (Bor (List ℕ))) → joined (map (λ part. part.now) order) ≡ flat_map (λ part. part.now) order
+joined_slices order = flat_map-map (λ (part : List ℕ). part) (λ (part : Bor (List ℕ)). part.now) order
+
+-- slices one after the other, which ascend as their octets do
+set_of : {E : Type 0} (parts : List (List ℕ)) (slices order : List (Bor (List ℕ))) (result : Result (Vec ℕ Global) E)
+    → Ascends parts (map (λ part. part.now) order) → slices ≡ order
+    → IfOk result (λ all. all.items ≡ flat_map (λ part. part.now) slices)
+    → IfOk result (λ all. IsSetContents parts all.items)
+set_of parts slices order (Ok all) ascends same is = (
+  map (λ part. part.now) order,
+  ascends,
+  is ∙ ap (λ (parts : List (Bor (List ℕ))). flat_map (λ part. part.now) parts) same ∙ sym (joined_slices order),
+)
+set_of parts slices order (Err e) ascends same is = tt
+
+pub returns : goal.returns
+returns c = record {
+  ok = set_of _ c.deref.result.now c.in_ok-order.order.items c.together.result c.in_ok-order.ensures
+      c.deref.ensures.value c.together.ensures;
+}
