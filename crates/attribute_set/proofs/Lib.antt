@@ -1,3 +1,4 @@
 pub mod Orders
 pub mod Readings
 pub mod Types
+pub mod Written

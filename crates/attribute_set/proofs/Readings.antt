@@ -1,10 +1,11 @@
 -- Attributes one after the other: how one is passed, and what reading all of them in order says.
-use Rattle.std.proofs.Common.{◌≡◌, ℕ, ◌<◌, List, length, map, Some, None, sym, ap, subst, ◌∙◌, refl, arith}
+use Rattle.std.proofs.Common.{◌≡◌, ◌↔◌, ℕ, ◌<◌, List, [], ◌∷◌, length, map, Bool, true, false, Option, Some, None, is_some, IsTrue, sym, ap, subst, ◌∙◌, refl, arith}
 use Rattle.std.specs.List.{AllByRecursion, IsDistinct}
 use Rattle.std.specs.List.Sorted.{IsSorted}
 use Rattle.std.specs.Ordering.{nat_cmp}
 use Rattle.std.specs.Cmp.Lexicographic.{slice_cmp}
 use Rattle.std.specs.Prelude.{bytes_eq}
+use Rattle.std.proofs.lemmas.Bool.{false≢true}
 use Rattle.std.proofs.lemmas.Option.{none-some}
 use Rattle.der_core.specs.Attribute.{Attribute, attribute_text, IsAttribute}
 use Rattle.der_core.specs.AttributeReading.{attribute_at, attribute_of}
@@ -13,10 +14,10 @@ use Rattle.der_core.specs.Reading.{◌>>?◌, front_of}
 use Rattle.der_core.specs.Reads.{Reads}
 use Rattle.der_core.specs.Shapes.{IsWhole, listed, any_element}
 use Rattle.der_core.proofs.AttributeLaws.{any_element_falls, attr-front}
-use Rattle.der_core.proofs.Digits.{IsOctets}
-use Rattle.der_core.proofs.Listed.{listed-whole}
+use Rattle.der_core.proofs.Digits.{AreOctets}
+use Rattle.der_core.proofs.Listed.{listed_more, listed_none, listed_end, listed-whole}
 use Rattle.der_core.proofs.Numbers.{some_bind, some_is}
-use Rattle.attribute_set.specs.AttributeSet.{set_contents, IsAttributeSet}
+use Rattle.attribute_set.specs.AttributeSet.{set_contents, AreAttributes, IsAttributeSet}
 
 -- ---- one attribute
 
@@ -67,7 +68,7 @@ one_set these those h k e =
     (sym (attributes-whole.again these h.each) ∙ ap (listed attribute_at) e ∙ attributes-whole.again those k.each)
 
 -- the attributes that were read ascend, and each has a type of its own
-pub reads_set : (bytes : List ℕ) (these : List Attribute) → IsOctets bytes → listed attribute_at bytes ≡ Some these
+pub reads_set : (bytes : List ℕ) (these : List Attribute) → AreOctets bytes → listed attribute_at bytes ≡ Some these
     → IsSorted (slice_cmp nat_cmp) (map attribute_text these)
     → IsDistinct bytes_eq (map (λ attribute. attribute.kind) these)
     → Reads set_contents IsAttributeSet bytes (Some these)
@@ -87,3 +88,33 @@ reads_none bytes never these = (
   λ same. absurd (none-some these same),
   λ h. absurd (never these h.0 (ap (listed attribute_at) h.1 ∙ attributes-whole.again these h.0.each)),
 )
+
+-- ---- whether they are attributes
+
+pub attributes_are : (bytes : List ℕ) (result : Bool) → AreOctets bytes → result ≡ is_some (listed attribute_at bytes)
+    → IsTrue result ↔ AreAttributes bytes
+attributes_are bytes result octets is = by_case (listed attribute_at bytes) refl is
+  where
+    by_case : (read : Option (List Attribute)) → listed attribute_at bytes ≡ read → result ≡ is_some read
+        → IsTrue result ↔ AreAttributes bytes
+    by_case (Some these) reads is = let t = attributes-whole.takes bytes these octets reads in (λ _. (these, t.0, t.1), λ _. is)
+    by_case None reads is = (
+      λ wrong. absurd (false≢true (sym is ∙ wrong)),
+      λ h. absurd (none-some h.0 (sym reads ∙ ap (listed attribute_at) h.2 ∙ attributes-whole.again h.0 h.1)),
+    )
+
+-- one more is passed
+pub passed_on : (bytes rest : List ℕ) (a : Attribute) → attribute_at bytes ≡ Some (a, rest)
+    → is_some (listed attribute_at bytes) ≡ is_some (listed attribute_at rest)
+passed_on bytes rest a e =
+    ap is_some (listed_more attribute_at attribute_at_falls bytes (a, rest) e) ∙ same (listed attribute_at rest)
+  where
+    same : (read : Option (List Attribute)) → is_some (read >>? λ more. Some (a ∷ more)) ≡ is_some read
+    same (Some more) = refl
+    same None = refl
+
+pub stopped : (bytes : List ℕ) → 0 < length bytes → attribute_at bytes ≡ None → is_some (listed attribute_at bytes) ≡ false
+stopped bytes some e = ap is_some (listed_none attribute_at bytes some e)
+
+pub ended : (bytes : List ℕ) → bytes ≡ [] → is_some (listed attribute_at bytes) ≡ true
+ended bytes e = ap (λ (b : List ℕ). is_some (listed attribute_at b)) e ∙ ap is_some (listed_end attribute_at)

@@ -3,19 +3,24 @@
 //! - `read_attribute_set` answers attributes exactly where the octets are theirs, one after the
 //!   other, in ascending order of their octets and with no type twice (`spelled`). No type stands
 //!   twice in its answer (`distinct`).
-//! - `one_attribute_set` is the law that octets are those of one list of attributes at most.
+//! - `are_attributes` says whether octets are attributes in any order, without memory
+//!   (`attributes`), which is what unsigned attributes are asked to be.
+//! - `laws` says that octets are those of one list of attributes at most, and that attributes of
+//!   distinct types, written as the contents of a SET OF by `der_write`, are such attributes.
 //!
 //! Time is n log n for n attributes, beside one look at each octet.
 //!
-//! Below it stands `der_core`, with the attributes. Readers of signers' parts of signed data stand
-//! above it.
+//! Below it stand `der_core`, with the attributes, and `der_write`, with sets that are written.
+//! Readers of signers' parts of signed data stand above it.
 //!
 //! Limits: those of `der_core`, for each attribute. There may be no attribute at all, which RFC
-//! 5652 leaves out. Values are elements of any kind and are not in order.
+//! 5652 leaves out. Values are elements of any kind and are not in order. That no type stands twice
+//! is this project's own: RFC 5652 asks it of three types alone (sections 11.1 to 11.3).
 #![tactic(auto)]
 
-mod laws;
+mod any_order;
+pub mod laws;
 mod read;
 
-pub use laws::one_attribute_set;
+pub use any_order::are_attributes;
 pub use read::read_attribute_set;

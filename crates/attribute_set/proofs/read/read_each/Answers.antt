@@ -10,13 +10,13 @@ use Rattle.attribute_set.proofs.read.read_each.Goals as goal
 
 pub returns-in_default-clause-exact : goal.returns-in_default-clause-exact
 returns-in_default-clause-exact c =
-    let some = some_left c.loop-cursor.cursor c.at_end.result c.at_end.ensures c.loop-cursor-test.true in
+    let some = some_left c.loop-cursor.cursor c.at_end.result c.at_end.ensures.end c.loop-cursor-test.true in
     stops attribute_at _ _ c.loop-cursor.cursor some c.loop-cursor.invariant.0
     (no_element c.loop-cursor.cursor c.in_default.ensures.exact)
 
 pub returns-in_default-read_attr-clause-exact : goal.returns-in_default-read_attr-clause-exact
 returns-in_default-read_attr-clause-exact c =
-    let some = some_left c.loop-cursor.cursor c.at_end.result c.at_end.ensures c.loop-cursor-test.true in
+    let some = some_left c.loop-cursor.cursor c.at_end.result c.at_end.ensures.end c.loop-cursor-test.true in
     stops attribute_at _ _ c.loop-cursor.cursor some c.loop-cursor.invariant.0
     (no_attribute c.loop-cursor.cursor _ _ c.in-Some.text.now _ c.in-Some.ensures.exact c.in-Some.ensures.element.1
     c.in_default-read_attr.ensures.exact)
@@ -47,5 +47,5 @@ loop-cursor-preserved c =
 
 pub returns-clause-exact : goal.returns-clause-exact
 returns-clause-exact c =
-    let none = none_left c.loop-cursor.cursor c.at_end.result c.at_end.ensures c.loop-cursor-test.false in
+    let none = none_left c.loop-cursor.cursor c.at_end.result c.at_end.ensures.end c.loop-cursor-test.false in
     ends attribute_at _ _ c.loop-cursor.cursor none c.loop-cursor.invariant.0

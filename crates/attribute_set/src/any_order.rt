@@ -1,0 +1,45 @@
+// Attributes in any order, which are only looked at.
+ghost use Rattle.std.specs.Prelude.{◌≡◌, ◌↔◌, IsTrue, is_some};
+ghost use Rattle.der_core.specs.AttributeReading.{attribute_at};
+ghost use Rattle.der_core.specs.Shapes.{listed};
+ghost use Rattle.attribute_set.specs.AttributeSet.{AreAttributes};
+
+use der_core::{Cursor, read_attr};
+
+/// Whether the octets are attributes, one after the other. They may stand in any order, and a type
+/// may stand more than once. It takes no memory.
+pub fn are_attributes(octets: &[u8]) -> bool
+    ensures attributes { IsTrue result ↔ AreAttributes octets.now }
+{
+    read_each(octets)
+}
+
+// The same, with the reading alone.
+fn read_each(octets: &[u8]) -> bool
+    ensures { result ≡ is_some (listed attribute_at octets.now) }
+{
+    let mut cursor = Cursor::new(octets);
+    while !cursor.at_end() {
+        let Some((_, _, text)) = cursor.next() else {
+            return false;
+        };
+        let Some(_) = read_attr(text) else {
+            return false;
+        };
+    }
+    true
+}
+
+#[cfg(test)]
+mod tests {
+    use super::*;
+
+    // Attributes of the types 1.2 and 1.3 without values (RFC 5652, section 5.3).
+    #[test]
+    fn attributes_in_any_order_are_found(rt: HostRuntime) {
+        let two = b"\x30\x05\x06\x01\x2b\x31\x00\x30\x05\x06\x01\x2a\x31\x00";
+        assert!(rt; are_attributes(two));
+        assert!(rt; are_attributes(b""));
+        assert!(rt; !are_attributes(&two[1..]));
+    }
+}
