@@ -4,10 +4,7 @@ ghost use Rattle.hss_chain.specs.Chains.{HssHolds};
 ghost use Rattle.hss_chain.specs.Levels.{LevelsHold, Signs};
 
 use crate::key::HssKey;
-use lms_verify::{LmsKey, lms_check, lms_key, signature_size};
-
-// The octets of an LMS public key.
-const KEY_LEN: usize = 56;
+use lms_verify::{KEY_LEN, LmsKey, lms_check, lms_key, signature_size};
 
 // The next key, where it stands in front of the octets behind its signature by this one, and the rest.
 fn next_key<'a>(key: &LmsKey, octets: &'a [u8]) -> Option<(LmsKey, &'a [u8])>
@@ -49,7 +46,7 @@ fn levels_hold(top: &LmsKey, count: u8, first: &[u8], rest: &[u8], octets: &[u8]
 /// Whether the octets are a signature under the key of the message `first` followed by `rest`, with as
 /// many levels as the key has. A key of no level or of more than 8 has none (RFC 8554, section 6.3).
 pub fn hss_check(key: &HssKey, first: &[u8], rest: &[u8], signature: &[u8]) -> bool
-    ensures { IsTrue result ↔ HssHolds key.now (first.now ++ rest.now) signature.now }
+    ensures holds { IsTrue result ↔ HssHolds key.now (first.now ++ rest.now) signature.now }
 {
     let [0, 0, 0, count @ 0..8, signed @ ..] = signature else {
         return false;

@@ -2,8 +2,8 @@
 //!
 //! - `hss_key` answers exactly the key whose 60 octets are given: 1 to 8 levels, and an LMS key of
 //!   known kinds (`read`, `valid`, `found`).
-//! - `hss_check` answers true exactly where the octets are a signature of the message under the key, in
-//!   the words of `specs/Chains.antt`: they are the count of signed keys, those keys, each behind a
+//! - `hss_check` answers true exactly where the octets are a signature of the message under the key
+//!   (`holds`), in the words of `specs/Chains.antt`: they are the count of signed keys, those keys, each behind a
 //!   signature by the key before it, and one signature of the message by the last key, with nothing
 //!   left over. The message is `first` followed by `rest`.
 //!

@@ -3,4 +3,4 @@ mod CheckLemmas
 mod DigitLemmas
 mod TextLemmas
 mod TreeLemmas
-mod Writes
+pub mod Writes

@@ -9,7 +9,7 @@ use crate::tree::{leaf_value, root_value};
 /// Whether the octets are a signature under the key of the message `first` followed by `rest` (RFC
 /// 8554, section 5.4.2).
 pub fn lms_check(key: &LmsKey, first: &[u8], rest: &[u8], signature: &[u8]) -> bool
-    ensures { IsTrue result ↔ LmsHolds key.now (first.now ++ rest.now) signature.now }
+    ensures holds { IsTrue result ↔ LmsHolds key.now (first.now ++ rest.now) signature.now }
 {
     let Some(parts) = read_parts(key.kind, key.ots, signature) else {
         return false;

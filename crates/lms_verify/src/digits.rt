@@ -3,10 +3,9 @@ ghost use Rattle.lms_verify.specs.Digits.{checked_value, checksum, digit};
 ghost use Rattle.lms_verify.specs.Kinds.{width};
 
 use crate::kind::OtsKind;
+use crate::octets::VALUE_LEN;
 
-// The octets of a message value, of a checksum, and of both.
-const VALUE_LEN: usize = 32;
-
+// The octets of a message value and its checksum.
 const CHECKED_LEN: usize = 34;
 
 /// Digit `i` of octets that are read as digits of w bits, the highest first (RFC 8554, section
@@ -14,7 +13,7 @@ const CHECKED_LEN: usize = 34;
 pub fn digit(ots: OtsKind, octets: &[u8], i: usize) -> u8
     requires few { length octets.now ≤ 34 }
     requires within { width ots * (i + 1) ≤ 8 * length octets.now }
-    ensures { result ≡ digit (width ots) octets.now i }
+    ensures value { result ≡ digit (width ots) octets.now i }
 {
     let width = ots.width();
     let before = width * i;
@@ -37,7 +36,7 @@ fn checksum(ots: OtsKind, value: &[u8; 32]) -> u16
 /// A message value and its checksum, whose digits say how far each chain goes (RFC 8554, section
 /// 4.5).
 pub fn checked_value(ots: OtsKind, value: &[u8; 32]) -> [u8; 34]
-    ensures { result ≡ checked_value ots value.now }
+    ensures value { result ≡ checked_value ots value.now }
 {
     let mut octets = [0u8; CHECKED_LEN];
     octets[..VALUE_LEN].copy_from_slice(value);

@@ -2,13 +2,9 @@ ghost use Rattle.std.specs.Prelude.{◌≡◌, Some, IfSome};
 ghost use Rattle.lms_verify.specs.Keys.{IsLmsKey, lms_key_text};
 
 use crate::kind::{LmsKind, OtsKind};
-use crate::octets::{id_in, number_in, value_in};
+use crate::octets::{KEY_LEN, NUMBER_LEN, id_in, number_in, value_in};
 
-// The octets of a public key, and of the parts in front of its root.
-const KEY_LEN: usize = 56;
-
-const NUMBER_LEN: usize = 4;
-
+// The octets of an identifier I.
 const ID_LEN: usize = 16;
 
 /// An LMS public key (RFC 8554, section 5.3).

@@ -35,7 +35,7 @@ impl LmsKind {
 
     /// The typecode that stands in keys and signatures (RFC 8554, section 5.1).
     pub fn number(self) -> u32
-        ensures { result ≡ lms_number self }
+        ensures value { result ≡ lms_number self }
     {
         self.row().number
     }
@@ -114,28 +114,28 @@ impl OtsKind {
 
     /// The typecode that stands in keys and signatures (RFC 8554, section 4.1).
     pub fn number(self) -> u32
-        ensures { result ≡ ots_number self }
+        ensures value { result ≡ ots_number self }
     {
         self.row().number
     }
 
     /// The width w of a digit, in bits (RFC 8554, section 4.1).
     pub fn width(self) -> usize
-        ensures { result ≡ width self }
+        ensures value { result ≡ width self }
     {
         self.row().width
     }
 
     /// The count p of chains, each of which has one value in a signature (RFC 8554, section 4.1).
     pub fn chain_count(self) -> usize
-        ensures { result ≡ chain_count self }
+        ensures value { result ≡ chain_count self }
     {
         self.row().chains
     }
 
     /// The greatest digit, 2^w - 1, which is also the last place of a chain.
     pub fn last_place(self) -> u8
-        ensures { result ≡ 2 ^ width self - 1 }
+        ensures value { result ≡ 2 ^ width self - 1 }
     {
         match self {
             OtsKind::W1 => 1,

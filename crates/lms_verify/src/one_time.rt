@@ -22,7 +22,7 @@ pub fn message_value(
     first: &[u8],
     rest: &[u8],
 ) -> [u8; 32]
-    ensures { result ≡ message_value id.now q randomizer.now (first.now ++ rest.now) }
+    ensures value { result ≡ message_value id.now q randomizer.now (first.now ++ rest.now) }
 {
     let mut hasher = hasher_of(id, q, D_MESG);
     hasher.update(randomizer);

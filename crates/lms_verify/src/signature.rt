@@ -4,12 +4,7 @@ ghost use Rattle.lms_verify.specs.Parts.{signature_of};
 ghost use Rattle.lms_verify.specs.Signatures.{LmsSignature, Spells, signature_size};
 
 use crate::kind::{LmsKind, OtsKind};
-use crate::octets::number_in;
-
-// The octets of a number, and of a value.
-const NUMBER_LEN: usize = 4;
-
-const VALUE_LEN: usize = 32;
+use crate::octets::{NUMBER_LEN, VALUE_LEN, number_in};
 
 // A signature, cut into its parts.
 #[derive(Drop)]
@@ -22,7 +17,7 @@ pub(crate) struct Parts<'a> {
 
 /// How many octets a signature under these kinds has (RFC 8554, section 5.4).
 pub fn signature_size(kind: LmsKind, ots: OtsKind) -> usize
-    ensures { result ≡ signature_size kind ots }
+    ensures value { result ≡ signature_size kind ots }
 {
     12 + VALUE_LEN * (1 + ots.chain_count() + kind.height() as usize)
 }

@@ -11,7 +11,7 @@ const D_INTR: [u8; 2] = [0x83, 0x83];
 
 /// The value of leaf node `r`, over its one-time public key (RFC 8554, section 5.3).
 pub fn leaf_value(id: &[u8; 16], r: u32, key: &[u8; 32]) -> [u8; 32]
-    ensures { result ≡ leaf_value id.now r key.now }
+    ensures value { result ≡ leaf_value id.now r key.now }
 {
     let mut hasher = hasher_of(id, r, D_LEAF);
     hasher.update(key);
@@ -20,7 +20,7 @@ pub fn leaf_value(id: &[u8; 16], r: u32, key: &[u8; 32]) -> [u8; 32]
 
 /// The value of inner node `m`, over the values of the two nodes below it (RFC 8554, section 5.3).
 pub fn inner_value(id: &[u8; 16], m: u32, left: &[u8], right: &[u8]) -> [u8; 32]
-    ensures { result ≡ inner_value id.now m left.now right.now }
+    ensures value { result ≡ inner_value id.now m left.now right.now }
 {
     let mut hasher = hasher_of(id, m, D_INTR);
     hasher.update(left);

@@ -43,6 +43,6 @@ returns c =
     let none : c.args.count - c.loop.counter ≡ 0 = omega arith in
     let P : ℕ → Type 0 = λ k. LevelsHold c.loop.signer k message c.loop.left.now in
     let last = LevelsHold-none c.loop.signer message c.loop.left.now in (
-      λ yes. c.loop.invariant.back (subst P (sym none) (last.1 (c.lms_check.ensures.0 yes))),
-      λ levels. c.lms_check.ensures.1 (last.0 (subst P none (c.loop.invariant.onward levels))),
+      λ yes. c.loop.invariant.back (subst P (sym none) (last.1 (c.lms_check.ensures.holds.0 yes))),
+      λ levels. c.lms_check.ensures.holds.1 (last.0 (subst P none (c.loop.invariant.onward levels))),
     )

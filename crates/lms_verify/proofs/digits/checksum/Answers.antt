@@ -23,6 +23,6 @@ loop-i-preserved c =
     let both = step c.loop-i.sum last (digit w value i) i total next (sym c.loop-i.invariant.sum)
     c.loop-i.invariant.bound more in
     let added : c.from-sum.result ≡ last - digit w value i =
-    c.from-sum.ensures ∙ ap (λ (n : ℕ). n - c.digit.result) c.last_place-last.ensures
-    ∙ ap (λ (n : ℕ). last - n) c.digit.ensures in
+    c.from-sum.ensures ∙ ap (λ (n : ℕ). n - c.digit.result) c.last_place-last.ensures.value
+    ∙ ap (λ (n : ℕ). last - n) c.digit.ensures.value in
     record { sum = rw added both.0; bound = rw added both.1 }

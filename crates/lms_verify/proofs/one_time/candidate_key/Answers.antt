@@ -22,11 +22,11 @@ loop-i-preserved c =
     let digit-is : slice_index (message_digits ots value) i ≡ c.digit-from.result =
     get_or-map-range_with_len (λ k. digit (width ots) (checked_value ots value) k) 0 (chain_count ots)
     i i 0 (omega arith) (omega arith)
-    ∙ sym (c.digit-from.ensures
-    ∙ ap (λ (octets : List ℕ). digit (width ots) octets i) c.checked_value-octets.ensures) in
+    ∙ sym (c.digit-from.ensures.value
+    ∙ ap (λ (octets : List ℕ). digit (width ots) octets i) c.checked_value-octets.ensures.value) in
     let size : 32 * i + 32 - 32 * i ≡ 32 = omega arith in
     let end-is : c.chain.result ≡ ends i =
-    c.chain.ensures ∙ rw (digit-is, size, c.last_place-last.ensures) refl in
+    c.chain.ensures.value ∙ rw (digit-is, size, c.last_place-last.ensures.value) refl in
     let whole : (front ++ flat_map ends (below i)) ++ c.chain.result ≡ front ++ flat_map ends (below (i + 1)) =
     append_assoc front (flat_map ends (below i)) c.chain.result
     ∙ ap (λ (end : List ℕ). front ++ (flat_map ends (below i) ++ end)) end-is

@@ -12,7 +12,7 @@ returns-then-numbers_fit-clause-read c =
     let behind = c.split_at-2.ensures.back ∙ ap (drop 4) rest in
     let after = c.split_at-3.ensures.back ∙ ap (drop 32) behind in
     let last = c.split_at-4.ensures.back
-    ∙ ap (λ (k : ℕ). drop (32 * k) c.split_at-3.result.1.now) c.chain_count.ensures
+    ∙ ap (λ (k : ℕ). drop (32 * k) c.split_at-3.result.1.now) c.chain_count.ensures.value
     ∙ ap (drop (32 * n)) after in
     let s : LmsSignature = record {
       q = c.number_in-q.result;
@@ -25,13 +25,13 @@ returns-then-numbers_fit-clause-read c =
       ots_number = sym (c.split_at-2.ensures.front ∙ ap (take 4) rest) ∙ c.number_in.ensures ∙ rw fit.0 refl;
       randomizer = sym (c.split_at-3.ensures.front ∙ ap (take 32) behind);
       values = sym (c.split_at-4.ensures.front
-          ∙ ap (λ (k : ℕ). take (32 * k) c.split_at-3.result.1.now) c.chain_count.ensures
+          ∙ ap (λ (k : ℕ). take (32 * k) c.split_at-3.result.1.now) c.chain_count.ensures.value
           ∙ ap (take (32 * n)) after);
       lms_number = sym (c.split_at-5.ensures.front ∙ ap (take 4) last) ∙ c.number_in-2.ensures ∙ rw fit.1 refl;
       path = sym (c.split_at-5.ensures.back ∙ ap (drop 4) last);
     } in
     parts_spell c.args.kind c.args.ots s c.args.octets.now parts fit.2
-    (c.if-octets-signature_size.false ∙ c.signature_size.ensures)
+    (c.if-octets-signature_size.false ∙ c.signature_size.ensures.value)
 
 pub returns-then-numbers_fit-clause-found : goal.returns-then-numbers_fit-clause-found
 returns-then-numbers_fit-clause-found c = λ s spells.
@@ -52,7 +52,7 @@ returns-clause-found c = λ s spells.
     let behind = c.split_at-2.ensures.back ∙ ap (drop 4) rest in
     let after = c.split_at-3.ensures.back ∙ ap (drop 32) behind in
     let last = c.split_at-4.ensures.back
-    ∙ ap (λ (k : ℕ). drop (32 * k) c.split_at-3.result.1.now) c.chain_count.ensures
+    ∙ ap (λ (k : ℕ). drop (32 * k) c.split_at-3.result.1.now) c.chain_count.ensures.value
     ∙ ap (drop (32 * n)) after in
     let leaf : c.number_in-q.result ≡ s.q =
     u32str_same _ _ (omega arith) (leaf_fits kind s.q spells.leaf)
