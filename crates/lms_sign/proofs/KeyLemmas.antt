@@ -1,4 +1,4 @@
--- The octets of a public key say which it is.
+-- The octets of a public key say which it is, and those of a signature which leaf made it.
 use Rattle.std.proofs.Common.{◌≡◌, ℕ, ◌^◌, ◌<◌, List, take, drop, refl, ap, sym, ◌∙◌, arith, lit<}
 use Rattle.std.specs.Prelude.{◌==◌, if◌then◌else◌}
 use Rattle.std.specs.Int.{w32, from_be_bytes}
@@ -13,6 +13,8 @@ use Rattle.lms_verify.specs.Kinds.{lms_number, ots_number}
 use Rattle.lms_verify.specs.Digits.{u32str}
 use Rattle.hss_chain.specs.declared.key.HssKey.{HssKey}
 use Rattle.hss_chain.specs.Keys.{IsHssKey, hss_key_text}
+use Rattle.lms_sign.specs.declared.key.SignKey.{SignKey}
+use Rattle.lms_sign.specs.SignTexts.{sign_text}
 
 -- four octets write one number
 u32str_same : (m n : ℕ) → m < 2 ^ 32 → n < 2 ^ 32 → u32str m ≡ u32str n → m ≡ n
@@ -81,3 +83,9 @@ one_text_each a b valid-a valid-b same =
     (same_top a.top b.top
     (sym (lms_there a.top.kind) ∙ ap lms_at kinds ∙ lms_there b.top.kind)
     (sym (ots_there a.top.ots) ∙ ap ots_at otses ∙ ots_there b.top.ots) id root)
+
+-- a signature names its leaf behind the count of lower levels
+pub one_leaf_each : (key other : SignKey) (q p : ℕ) (message text : List ℕ) → q < 2 ^ 32 → p < 2 ^ 32
+    → sign_text key q message ≡ sign_text other p text → q ≡ p
+one_leaf_each key other q p message text q-fits p-fits same =
+    u32str_same q p q-fits p-fits (ap (λ (octets : List ℕ). take 4 (drop 4 octets)) same)

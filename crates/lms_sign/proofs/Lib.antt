@@ -3,4 +3,3 @@ mod HoldsLemmas
 mod KeyLemmas
 mod PathLemmas
 mod TreeLemmas
-mod Writes

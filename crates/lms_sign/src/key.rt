@@ -3,9 +3,9 @@ ghost use Rattle.lms_verify.specs.Kinds.{height};
 
 use lms_verify::{LmsKind, OtsKind};
 
-/// A signing key of one level, whose secrets all follow from SEED (RFC 8554, Appendix A). Its
-/// `Debug` shows SEED.
-#[derive(Clone, Copy, Debug, PartialEq, Eq)]
+/// A signing key of one level, whose secrets all follow from SEED (RFC 8554, Appendix A). It isn't
+/// copied, and nothing prints it.
+#[derive(Drop, PartialEq, Eq)]
 pub struct SignKey {
     /// The secret SEED.
     pub seed: [u8; 32],

@@ -1,5 +1,5 @@
 // Laws over the definitions alone.
-ghost use Rattle.std.specs.Prelude.{◌≡◌, ℕ, ◌+◌, ◌<◌, ◌≤◌, List};
+ghost use Rattle.std.specs.Prelude.{◌≡◌, ℕ, ◌+◌, ◌<◌, ◌≤◌, ◌^◌, List};
 ghost use Rattle.hss_chain.specs.declared.key.HssKey.{HssKey};
 ghost use Rattle.hss_chain.specs.Chains.{HssHolds};
 ghost use Rattle.hss_chain.specs.Keys.{IsHssKey, hss_key_text};
@@ -37,6 +37,14 @@ pub fn path_goes_up_the_tree()
 pub fn signatures_hold()
     ensures { (key : SignKey) (q : ℕ) (message : List ℕ) → q < leaf_count key
         → HssHolds (public_key key) message (sign_text key q message) }
+{}
+
+/// A law: signatures that are equal were made with leaves of one number, whatever the keys and the
+/// messages (RFC 8554, sections 5.4 and 6.2). So where no leaf of a key signs twice, no signature by
+/// it is ever sent for two messages.
+pub fn signatures_name_their_leaf()
+    ensures { (key other : SignKey) (q p : ℕ) (message text : List ℕ) → q < 2 ^ 32 → p < 2 ^ 32
+        → sign_text key q message ≡ sign_text other p text → q ≡ p }
 {}
 
 /// A law: two valid keys never share their octets (RFC 8554, section 6.1). So `key_octets`, which

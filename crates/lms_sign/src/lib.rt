@@ -2,14 +2,17 @@
 //! of a secret SEED, and signatures with leaves that were spent (RFC 8554).
 //!
 //! - `sign` leaves in `out` exactly the signature of the message `first` followed by `rest` with
-//!   the leaf that it takes, in the words of `specs/SignTexts.antt`. Its size is `signature_size`.
+//!   the leaf that it takes (`signature`), in the words of `specs/SignTexts.antt`. Its size is
+//!   `signature_size` (`value`).
 //! - `public` is the public key of one level with the key's kinds and identifier, and the root of
 //!   its tree (`value`). It is one that `hss_key` reads (`valid`).
 //! - `signatures_hold` is the law that what a key signs holds under its public key, for each
 //!   message and each leaf, in the words of `hss_chain`.
+//! - `signatures_name_their_leaf` is the law that equal signatures have equal leaf numbers, whatever
+//!   the keys and the messages.
 //! - `steps_of_a_chain_add_up`, `nodes_are_those_of_the_standard` and `path_goes_up_the_tree` are
 //!   the laws of chains, of the tree and of a leaf's path that it stands on.
-//! - `key_octets` writes exactly the 60 octets of a public key, and `keys_have_one_text_each` is
+//! - `key_octets` writes exactly the 60 octets of a public key (`text`), and `keys_have_one_text_each` is
 //!   the law that valid keys never share them: so it is inverse to `hss_key`. `key_id` is the name
 //!   that this project gives a key, the first 20 octets of their SHA-256.
 //! - `SignKey` has 32 or 1,024 leaves (`low`), and `leaf_count` says how many (`value`, `row`).
@@ -36,7 +39,7 @@ mod tree;
 pub use key::SignKey;
 pub use laws::{
     keys_have_one_text_each, nodes_are_those_of_the_standard, path_goes_up_the_tree,
-    signatures_hold, steps_of_a_chain_add_up,
+    signatures_hold, signatures_name_their_leaf, steps_of_a_chain_add_up,
 };
 pub use public_key::{key_id, key_octets, leaf_count, public, signature_size};
 pub use signing::sign;

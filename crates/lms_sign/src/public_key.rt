@@ -36,14 +36,14 @@ pub fn public(key: &SignKey) -> HssKey
 
 /// How many octets a signature has (RFC 8554, section 6.2).
 pub fn signature_size(key: &SignKey) -> usize
-    ensures { result ≡ hss_signature_size key.now }
+    ensures value { result ≡ hss_signature_size key.now }
 {
     4 + lms_signature_size(key.kind, key.ots)
 }
 
 /// The octets of a public key (RFC 8554, section 6.1).
 pub fn key_octets(key: &HssKey) -> [u8; 60]
-    ensures { result ≡ hss_key_text key.now }
+    ensures text { result ≡ hss_key_text key.now }
 {
     let mut octets = [0u8; 60];
     octets[..4].copy_from_slice(&u32::from(key.levels).to_be_bytes());
@@ -57,7 +57,7 @@ pub fn key_octets(key: &HssKey) -> [u8; 60]
 /// What names a public key in packages and certificates: the first 20 octets of the SHA-256 of its
 /// octets.
 pub fn key_id(key: &HssKey) -> [u8; 20]
-    ensures { result ≡ key_id key.now }
+    ensures value { result ≡ key_id key.now }
 {
     let digest = Sha256::digest(key_octets(key));
     let mut id = [0u8; 20];

@@ -10,19 +10,14 @@ use crate::key::SignKey;
 use crate::secrets::{randomizer, secret};
 use crate::tree::tree_node;
 use key_state::Leaf;
-use lms_verify::{chain, checked_value, digit, message_value};
-
-// The octets of a number, and of a value.
-const NUMBER_LEN: usize = 4;
-
-const VALUE_LEN: usize = 32;
+use lms_verify::{NUMBER_LEN, VALUE_LEN, chain, checked_value, digit, message_value};
 
 /// Signs the message `first` followed by `rest` with a leaf, which is used up by it (RFC 8554,
 /// sections 4.5, 5.4.1 and 6.2).
 pub fn sign(key: &SignKey, leaf: Leaf, first: &[u8], rest: &[u8], out: &mut [u8])
     requires leaf { leaf < leaf_count key.now }
     requires size { length out.old ≡ hss_signature_size key.now }
-    ensures { out.new ≡ sign_text key.now leaf (first.now ++ rest.now) }
+    ensures signature { out.new ≡ sign_text key.now leaf (first.now ++ rest.now) }
 {
     let q = leaf.number();
     let randomizer = randomizer(key, q);

@@ -3,7 +3,7 @@ use Rattle.std.proofs.lemmas.List.{append-nil}
 use borrow.Rule.Slice.PartMut.{put_mid}
 use Rattle.lms_verify.specs.Digits.{u32str}
 use Rattle.lms_verify.specs.Kinds.{lms_number, ots_number}
-use Rattle.lms_sign.proofs.Writes.{put_mid_at}
+use Rattle.lms_verify.proofs.Writes.{put_mid_at}
 use Rattle.lms_sign.proofs.public_key.key_octets.Goals as goal
 
 -- the parts are written one behind the other
@@ -33,18 +33,20 @@ parts_in_order a b d id root a-size b-size d-size id-size root-size =
     ∙ four ∙ simp (append_assoc, append-nil)
 
 pub returns : goal.returns
-returns c =
-    let key = c.args.key.now in
-    let levels-is : c.copy_from_slice.new.self ≡ u32str key.levels =
-    c.copy_from_slice.ensures.after ∙ c.to_be_bytes.ensures ∙ ap u32str c.from.ensures in
-    let kind-is : c.copy_from_slice-2.new.self ≡ u32str (lms_number key.top.kind) =
-    c.copy_from_slice-2.ensures.after ∙ c.to_be_bytes-2.ensures ∙ ap u32str c.number.ensures in
-    let ots-is : c.copy_from_slice-3.new.self ≡ u32str (ots_number key.top.ots) =
-    c.copy_from_slice-3.ensures.after ∙ c.to_be_bytes-3.ensures ∙ ap u32str c.number-2.ensures in
-    let id-is : c.copy_from_slice-4.new.self ≡ key.top.id = c.copy_from_slice-4.ensures.after in
-    let root-is : c.copy_from_slice-5.new.self ≡ key.top.root = c.copy_from_slice-5.ensures.after in
-    let id-size : length key.top.id ≡ 16 = search rules in
-    let root-size : length key.top.root ≡ 32 = search rules in
-    parts_in_order _ _ _ _ _ (ap length levels-is) (ap length kind-is) (ap length ots-is)
-    (ap length id-is ∙ id-size) (ap length root-is ∙ root-size)
-    ∙ rw (levels-is, kind-is, ots-is, id-is, root-is) (simp append_assoc)
+returns c = record {
+  text =
+      let key = c.args.key.now in
+      let levels-is : c.copy_from_slice.new.self ≡ u32str key.levels =
+      c.copy_from_slice.ensures.after ∙ c.to_be_bytes.ensures ∙ ap u32str c.from.ensures in
+      let kind-is : c.copy_from_slice-2.new.self ≡ u32str (lms_number key.top.kind) =
+      c.copy_from_slice-2.ensures.after ∙ c.to_be_bytes-2.ensures ∙ ap u32str c.number.ensures.value in
+      let ots-is : c.copy_from_slice-3.new.self ≡ u32str (ots_number key.top.ots) =
+      c.copy_from_slice-3.ensures.after ∙ c.to_be_bytes-3.ensures ∙ ap u32str c.number-2.ensures.value in
+      let id-is : c.copy_from_slice-4.new.self ≡ key.top.id = c.copy_from_slice-4.ensures.after in
+      let root-is : c.copy_from_slice-5.new.self ≡ key.top.root = c.copy_from_slice-5.ensures.after in
+      let id-size : length key.top.id ≡ 16 = search rules in
+      let root-size : length key.top.root ≡ 32 = search rules in
+      parts_in_order _ _ _ _ _ (ap length levels-is) (ap length kind-is) (ap length ots-is)
+      (ap length id-is ∙ id-size) (ap length root-is ∙ root-size)
+      ∙ rw (levels-is, kind-is, ots-is, id-is, root-is) (simp append_assoc);
+}

@@ -15,7 +15,7 @@ loop-i-preserved c =
     let ends = whole_chain key q in
     let front = key.id ++ u32str q ++ d_pblc in
     let end-is : c.chain.result ≡ ends i =
-    c.chain.ensures ∙ rw (c.secret.ensures, c.last_place-last.ensures) refl in
+    c.chain.ensures.value ∙ rw (c.secret.ensures, c.last_place-last.ensures.value) refl in
     let whole : (front ++ flat_map ends (below i)) ++ c.chain.result ≡ front ++ flat_map ends (below (i + 1)) =
     append_assoc front (flat_map ends (below i)) c.chain.result
     ∙ ap (λ (end : List ℕ). front ++ (flat_map ends (below i) ++ end)) end-is

@@ -2,7 +2,7 @@ use Rattle.std.proofs.Common.{◌≡◌, ℕ, ◌+◌, ◌-◌, ◌*◌, ◌≤�
 use Rattle.std.proofs.lemmas.List.{take_at, take-append-drop}
 use borrow.Rule.Slice.PartMut.{put_mid}
 use Rattle.lms_sign.proofs.ChainLemmas.{flat_map_below_more}
-use Rattle.lms_sign.proofs.Writes.{put_mid_at}
+use Rattle.lms_verify.proofs.Writes.{put_mid_at}
 use Rattle.lms_sign.proofs.signing.put_value.Goals as goal
 
 -- the value stands behind what stood before it

@@ -15,8 +15,8 @@ loop-i-preserved c =
     let digit-is : slice_index (message_digits ots value) i ≡ c.digit-steps.result =
     get_or-map-range_with_len (λ k. digit (width ots) (checked_value ots value) k) 0 (chain_count ots)
     i i 0 (omega arith) (omega arith)
-    ∙ sym (c.digit-steps.ensures
-    ∙ ap (λ (octets : List ℕ). digit (width ots) octets i) c.checked_value-octets.ensures) in
+    ∙ sym (c.digit-steps.ensures.value
+    ∙ ap (λ (octets : List ℕ). digit (width ots) octets i) c.checked_value-octets.ensures.value) in
     let here : c.chain.result ≡ signature_value key c.args.q value i =
-    c.chain.ensures ∙ rw (digit-is, c.secret-start.ensures) refl in
+    c.chain.ensures.value ∙ rw (digit-is, c.secret-start.ensures) refl in
     c.put_value.ensures (signature_value key c.args.q value) c.loop-i.invariant here
