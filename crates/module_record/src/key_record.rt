@@ -118,8 +118,9 @@ pub fn read_key_record(bytes: &[u8]) -> Option<SignKey>
 }
 
 // Appends a key's fields, without what makes them a SEQUENCE.
-fn put_fields(alloc: Global, out: &mut Vec<u8>, key: SignKey) -> Result<(), AllocError>
-    ensures ok { OnOk result (out.new.items ≡ out.old.items ++ key_fields_text key) }
+fn put_fields(alloc: Global, out: &mut Vec<u8>, key: &SignKey) -> Result<(), AllocError>
+    ensures ok { OnOk result (out.new.items ≡ out.old.items ++ key_fields_text key.now) }
+    ensures valid { OnOk result (IsSignKey key.now) }
 {
     put_u128(alloc, out, u128::from(key.kind.number()))?;
     put_u128(alloc, out, u128::from(key.ots.number()))?;
@@ -128,8 +129,8 @@ fn put_fields(alloc: Global, out: &mut Vec<u8>, key: SignKey) -> Result<(), Allo
 }
 
 // The text of a key.
-fn key_octets(alloc: Global, key: SignKey) -> Result<Vec<u8>, AllocError>
-    ensures ok { IfOk result (λ octets. octets.items ≡ key_text key) }
+fn key_octets(alloc: Global, key: &SignKey) -> Result<Vec<u8>, AllocError>
+    ensures ok { IfOk result (λ octets. octets.items ≡ key_text key.now) }
     ensures size { IfOk result (λ octets. length octets.items ≡ 60) }
 {
     let mut fields = Vec::new(alloc);
@@ -146,7 +147,7 @@ pub fn put_key_record(alloc: Global, out: &mut Vec<u8>, key: &SignKey) -> Result
 {
     let mut contents = Vec::new(alloc);
     put_u128(alloc, &mut contents, KEY_RECORD)?;
-    contents.extend_from_slice(&key_octets(alloc, *key)?)?;
+    contents.extend_from_slice(&key_octets(alloc, key)?)?;
     put_tlv(alloc, out, tags::SEQUENCE, &contents)
 }
 
@@ -167,41 +168,26 @@ mod tests {
         octets
     }
 
-    // One octet of the record is another one, and 00 follows.
+    // Whether octets begin with a key record where one octet of the record is another, and 00 follows.
+    fn is_record(alloc: Global, place: usize, octet: u8) -> Result<bool, Fail> {
+        let mut octets = record().to_vec(alloc)?;
+        octets.push(0x00)?;
+        *octets.get_mut(place).ok_or("a place in the record")? = octet;
+        Ok(read_key_record(&octets).is_some())
+    }
+
     #[test]
     fn tells_a_key_record_from_other_octets(rt: HostRuntime) -> Result<(), Fail> {
-        let rows: [(usize, u8, bool); 18] = [
-            // what it is, and what kind of record
-            (0, 0x30, true),
-            (0, 0x31, false),
-            (4, 0x01, false),
-            (4, 0x03, false),
-            // H10, H15, and a number below that of H5
-            (9, 0x06, true),
-            (9, 0x07, false),
-            (9, 0x04, false),
-            // W1, W8, and numbers beside them
-            (12, 0x01, true),
-            (12, 0x04, true),
-            (12, 0x00, false),
-            (12, 0x05, false),
-            // other sizes of the record, the key, SEED and I
-            (1, 0x40, false),
-            (1, 0x3e, false),
-            (6, 0x39, false),
-            (14, 0x1f, false),
-            (48, 0x0f, false),
-            // any SEED and I are good
-            (15, 0xff, true),
-            (64, 0xff, true),
-        ];
-        for (place, octet, answer) in rows {
-            let mut octets = record().to_vec(rt.alloc())?;
-            octets.push(0x00)?;
-            *octets.get_mut(place).ok_or("a place in the record")? = octet;
-            let found = read_key_record(&octets).is_some();
-            assert_eq!(rt; found, answer, "{octet:02x} at {place}");
-        }
+        let alloc = rt.alloc();
+        assert!(rt; is_record(alloc, 0, 0x30)?, "as it is");
+        assert!(rt; is_record(alloc, 9, 0x06)?, "H10");
+        assert!(rt; is_record(alloc, 12, 0x01)?, "W1");
+        assert!(rt; is_record(alloc, 15, 0xff)?, "another SEED");
+        assert!(rt; !is_record(alloc, 4, 0x01)?, "a module's record");
+        assert!(rt; !is_record(alloc, 9, 0x07)?, "H15");
+        assert!(rt; !is_record(alloc, 12, 0x05)?, "no one-time keys");
+        assert!(rt; !is_record(alloc, 14, 0x1f)?, "a shorter SEED");
+        assert!(rt; !is_record(alloc, 6, 0x39)?, "a shorter key");
         Ok(())
     }
 

@@ -4,7 +4,7 @@ use Rattle.std.proofs.Common.{arith, inl, inr, ◌⊎◌, append_assoc, length-a
 use Rattle.std.specs.List.{AllByRecursion, AllZip}
 use Rattle.std.proofs.lemmas.Bool.{cases_lt}
 use Rattle.std.proofs.lemmas.List.{take-append-drop, take-take, take_at}
-use Rattle.recipe_text.specs.Lines.{IsLine, IsText, lines_text, kept, Say, Recipe, BadAt, BadBehind, FirstBad}
+use Rattle.recipe_text.specs.Lines.{IsLine, IsText, lines_text, kept, Say, Rules, Recipe, BadAt, BadBehind, FirstBad}
 use Rattle.recipe_text.proofs.Texts.{kept-append, splits, one_text, all-append}
 
 -- the entries that the first lines say
@@ -59,8 +59,11 @@ one_line {E} {IsEntry} closed lines rest m n (inr x) (inl y) =
     absurd (y.bad (say_all IsEntry closed lines (y.before + 1) x.good))
 one_line {E} {IsEntry} closed lines rest m n (inr x) (inr y) = x.number ∙ sym y.number
 
+abbrev rules : {E : Type 0} → (List ℕ → E → Type 0) → (List E → Type 0) → (List E → Type 0) → Rules E
+rules IsEntry Fits Whole = record { says = IsEntry; fit = Fits; whole = Whole }
+
 pub one_first : {E : Type 0} {IsEntry : List ℕ → E → Type 0} {Fits Whole : List E → Type 0} → IsClosed Fits
-    → (text : List ℕ) (m n : ℕ) → FirstBad IsEntry Fits Whole text m → FirstBad IsEntry Fits Whole text n → m ≡ n
+    → (text : List ℕ) (m n : ℕ) → FirstBad (rules IsEntry Fits Whole) text m → FirstBad (rules IsEntry Fits Whole) text n → m ≡ n
 one_first {E} {IsEntry} {Fits} {Whole} closed text m n x y =
     let same = one_text text x.0 y.0 x.1 y.1 x.2 y.2 in
     let other = subst (λ (r : List ℕ). BadAt IsEntry Fits x.0 n ⊎ BadBehind IsEntry Fits Whole x.0 r n) (sym same.1)
@@ -77,12 +80,12 @@ not_bad {E} {IsEntry} closed lines rest n fits whole nothing (inl x) = x.bad (sa
 not_bad {E} {IsEntry} closed lines rest n fits whole nothing (inr x) = x.bad whole nothing
 
 pub recipe_good : {E : Type 0} {IsEntry : List ℕ → E → Type 0} {Fits Whole : List E → Type 0} → IsClosed Fits
-    → (text : List ℕ) (n : ℕ) (entries : List E) → Recipe IsEntry text entries → Fits entries → Whole entries
-    → FirstBad IsEntry Fits Whole text n → ⊥
-recipe_good {E} {IsEntry} {Fits} {Whole} closed text n entries r fits whole x =
+    → (text : List ℕ) (n : ℕ) (entries : List E) → Recipe (rules IsEntry Fits Whole) text entries
+    → FirstBad (rules IsEntry Fits Whole) text n → ⊥
+recipe_good {E} {IsEntry} {Fits} {Whole} closed text n entries r x =
     let same = one_text text r.0 x.0 [] x.1 r.1 x.2 in
     not_bad closed x.0 x.1 n
-    (subst (Say IsEntry Fits) same.0 (entries, r.2, fits)) (subst (Say IsEntry Whole) same.0 (entries, r.2, whole))
+    (subst (Say IsEntry Fits) same.0 (entries, r.2, r.3)) (subst (Say IsEntry Whole) same.0 (entries, r.2, r.4))
     (sym same.1) x.3
 
 -- ---- where the reader stops
@@ -91,7 +94,7 @@ pub bad_here : {E : Type 0} {IsEntry : List ℕ → E → Type 0} {Fits Whole : 
     (text : List ℕ) (passed : List (List ℕ)) (line after : List ℕ) → text ≡ lines_text passed ++ (line ++ 10 ∷ after)
     → AllByRecursion IsLine passed → IsLine line → Say IsEntry Fits passed
     → (Say IsEntry Fits (passed ++ line ∷ []) → ⊥)
-    → FirstBad IsEntry Fits Whole text (length passed + 1)
+    → FirstBad (rules IsEntry Fits Whole) text (length passed + 1)
 bad_here {E} {IsEntry} {Fits} {Whole} text passed line after is all-lines is-line good bad =
     let t = splits after in
     let lines = passed ++ line ∷ t.0 in
@@ -128,7 +131,7 @@ bad_here {E} {IsEntry} {Fits} {Whole} text passed line after is all-lines is-lin
 pub bad_behind : {E : Type 0} {IsEntry : List ℕ → E → Type 0} {Fits Whole : List E → Type 0}
     (text : List ℕ) (passed : List (List ℕ)) (rest : List ℕ) → text ≡ lines_text passed ++ rest
     → AllByRecursion IsLine passed → IsLine rest → Say IsEntry Fits passed
-    → (Say IsEntry Whole passed → rest ≡ [] → ⊥) → FirstBad IsEntry Fits Whole text (length passed + 1)
+    → (Say IsEntry Whole passed → rest ≡ [] → ⊥) → FirstBad (rules IsEntry Fits Whole) text (length passed + 1)
 bad_behind text passed rest is all-lines last good bad = (
   passed,
   rest,

@@ -38,13 +38,13 @@ good_of_ok text key r k = (
 )
 
 pub bad_of_ok : (text : List ℕ) (key : SignKey) → KeyRecipe text key → (n : ℕ) → ⊥ ↔ FirstBadKeyLine text n
-bad_of_ok text key r n = (λ no. absurd no, λ bad. recipe_good closed text n (key ∷ []) r (omega arith) refl bad)
+bad_of_ok text key r n = (λ no. absurd no, λ bad. recipe_good closed text n (key ∷ []) r bad)
 
 pub good_of_err : (text : List ℕ) (m : ℕ) (b : BadLine) → FirstBadKeyLine text m
     → (k : SignKey) → (◌≡◌ {A = Result SignKey BadLine} (Err b) (Ok k)) ↔ KeyRecipe text k
 good_of_err text m b bad k = (
   λ same. absurd (false≢true (ap is_ok same)),
-  λ r. absurd (recipe_good closed text m (k ∷ []) r (omega arith) refl bad),
+  λ r. absurd (recipe_good closed text m (k ∷ []) r bad),
 )
 
 pub bad_of_err : (text : List ℕ) (m : ℕ) (b : ℕ) → b ≡ m → FirstBadKeyLine text m → (n : ℕ)
@@ -165,6 +165,8 @@ whole text rest key lines p nothing = (
     last = tt;
   },
   one_may text rest key lines p,
+  omega arith,
+  refl,
 )
 
 -- ---- options

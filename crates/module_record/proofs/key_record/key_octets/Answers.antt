@@ -5,16 +5,14 @@ use Rattle.module_record.proofs.key_record.key_octets.Goals as goal
 
 pub put_tlv-requires-clause-fits : goal.put_tlv-requires-clause-fits
 put_tlv-requires-clause-fits c =
-    let key = c.args.key in
-    let seed : length key.seed ≡ 32 = search rules in
-    let id : length key.id ≡ 16 = search rules in
+    let key = c.args.key.now in
+    let valid = c.in_ok-put_fields.ensures.valid in
     let written : c.deref.result.now ≡ key_fields_text key = search rules in
-    omega (arith, fields_fit key seed id, ap length written)
+    omega (arith, fields_fit key valid.seed valid.id, ap length written)
 
 pub returns-clause-size : goal.returns-clause-size
 returns-clause-size c =
-    let key = c.args.key in
-    let seed : length key.seed ≡ 32 = search rules in
-    let id : length key.id ≡ 16 = search rules in
+    let key = c.args.key.now in
+    let valid = c.in_ok-put_fields.ensures.valid in
     let written : c.put_tlv.new.out.items ≡ key_text key = search rules in
-    ap length written ∙ key_text_size key seed id
+    ap length written ∙ key_text_size key valid.seed valid.id

@@ -6,5 +6,5 @@ pub returns : goal.returns
 returns c = record {
   spelled =
       record_reads c.args.bytes.now c.read_front.new.octets c.read_front.result (λ i. omega (arith, c.type_inv.bytes i))
-      (rw c.new.ensures at c.read_front.ensures.exact);
+      (rw c.new.ensures.all at c.read_front.ensures.exact);
 }
