@@ -132,6 +132,7 @@ fn put_fields(alloc: Global, out: &mut Vec<u8>, key: &SignKey) -> Result<(), All
 fn key_octets(alloc: Global, key: &SignKey) -> Result<Vec<u8>, AllocError>
     ensures ok { IfOk result (λ octets. octets.items ≡ key_text key.now) }
     ensures size { IfOk result (λ octets. length octets.items ≡ 60) }
+    ensures valid { OnOk result (IsSignKey key.now) }
 {
     let mut fields = Vec::new(alloc);
     put_fields(alloc, &mut fields, key)?;
@@ -143,6 +144,7 @@ fn key_octets(alloc: Global, key: &SignKey) -> Result<Vec<u8>, AllocError>
 /// Appends the key record of a key.
 pub fn put_key_record(alloc: Global, out: &mut Vec<u8>, key: &SignKey) -> Result<(), AllocError>
     ensures ok { OnOk result (out.new.items ≡ out.old.items ++ key_record_text key.now) }
+    ensures valid { OnOk result (IsSignKey key.now) }
     ensures err { OnErr result (out.new.items ≡ out.old.items) }
 {
     let mut contents = Vec::new(alloc);

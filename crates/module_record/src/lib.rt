@@ -1,8 +1,8 @@
 //! The key record, in which a board keeps a signing key; this project's own.
 //!
 //! - `read_key_record` answers a key exactly where the octets begin with its record (`spelled`).
-//! - `put_key_record` appends exactly the key's record (`ok`), or leaves the list as it was
-//!   (`err`).
+//! - `put_key_record` appends exactly the record of the key (`ok`), which is a valid one (`valid`),
+//!   or leaves the list as it was (`err`).
 //! - `one_key_record_each` is the law that no octets begin with the records of two keys (`unique`),
 //!   that what is put is read back whatever follows (`read`), and that a record has 65 octets
 //!   (`size`).
