@@ -57,15 +57,15 @@ pub returns : goal.returns
 returns c = record {
   value =
       let id = c.args.id.now in
-        let q = c.args.q in
-        let i = c.args.i in
-        let front = id ++ u32str q ++ u16str i in
-        let value = chain id q i c.args.from c.loop-j.j c.args.value.now in
-        let whole = c.loop-j.invariant.octets.1 in
-        let steps : c.loop-j.j - c.args.from ≡ c.args.to - c.args.from = omega arith in
-        c.copy_from_slice.ensures.after
-        ∙ ap (λ (octets : List ℕ). take 32 (drop 23 octets)) whole
-        ∙ read_value front value c.loop-j.invariant.octets.0 (front_size id q i c.told-id)
-        (ap length (sym whole) ∙ c.loop-j.invariant.size)
-        ∙ ap (λ (n : ℕ). chain_after id q i c.args.from n c.args.value.now) steps;
+      let q = c.args.q in
+      let i = c.args.i in
+      let front = id ++ u32str q ++ u16str i in
+      let value = chain id q i c.args.from c.loop-j.j c.args.value.now in
+      let whole = c.loop-j.invariant.octets.1 in
+      let steps : c.loop-j.j - c.args.from ≡ c.args.to - c.args.from = omega arith in
+      c.copy_from_slice.ensures.after
+      ∙ ap (λ (octets : List ℕ). take 32 (drop 23 octets)) whole
+      ∙ read_value front value c.loop-j.invariant.octets.0 (front_size id q i c.told-id)
+      (ap length (sym whole) ∙ c.loop-j.invariant.size)
+      ∙ ap (λ (n : ℕ). chain_after id q i c.args.from n c.args.value.now) steps;
 }

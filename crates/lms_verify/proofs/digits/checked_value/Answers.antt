@@ -7,12 +7,12 @@ pub returns : goal.returns
 returns c = record {
   value =
       put_mid_at c.copy_from_slice.new.self (0 ∷ 0 ∷ []) [] c.copy_from_slice-2.new.self 32 2
-        c.copy_from_slice.ensures.len refl
-        ∙ rw (
-          append-nil,
-          c.copy_from_slice-2.ensures.after,
-          c.to_be_bytes.ensures,
-          c.checksum.ensures,
-          c.copy_from_slice.ensures.after,
-        ) refl;
+      c.copy_from_slice.ensures.len refl
+      ∙ rw (
+        append-nil,
+        c.copy_from_slice-2.ensures.after,
+        c.to_be_bytes.ensures,
+        c.checksum.ensures,
+        c.copy_from_slice.ensures.after,
+      ) refl;
 }

@@ -7,5 +7,5 @@ pub returns : goal.returns
 returns c = record {
   value =
       rw (c.last_place.ensures.value, c.width-width.ensures.value, and_mask)
-        (digit_is c.args.ots c.args.octets.now c.args.i (λ k. omega (arith, c.type_inv.octets k)) c.requires.within);
+      (digit_is c.args.ots c.args.octets.now c.args.i (λ k. omega (arith, c.type_inv.octets k)) c.requires.within);
 }
