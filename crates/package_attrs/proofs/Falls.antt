@@ -8,7 +8,8 @@ use Rattle.package_attrs.specs.declared.community.SerialEntry.TheVariants as ent
 use Rattle.package_attrs.specs.declared.community.Community.TheVariants as communities
 use Rattle.package_attrs.specs.declared.name.PackageName.TheVariants as names
 use Rattle.package_attrs.specs.Reading.{oid_at, pair_of, name_at}
-use Rattle.package_attrs.specs.ListReading.{nothing, block_of, serial_entry_at, modules_of, community_at}
+use Rattle.package_attrs.specs.ListReading.{modules_of, community_at}
+use Rattle.package_attrs.specs.SerialReading.{nothing, block_of, serial_entry_at}
 
 -- what follows is shorter
 abbrev pub Falls : {V : Type 0} → Front V → Type 0

@@ -14,7 +14,7 @@ use Rattle.package_attrs.specs.declared.name.PackageName.{PackageName}
 use Rattle.package_attrs.specs.declared.name.PackageName.TheVariants as names
 use Rattle.package_attrs.specs.declared.name.Stale.{Stale}
 use Rattle.package_attrs.specs.declared.name.Stale.TheVariants as stales
-use Rattle.package_attrs.specs.Identifier.{Named, name_text, stale_text, identifier_text, IsLegacy, IsName, IsStale}
+use Rattle.package_attrs.specs.Identifier.{Named, name_text, stale_text, identifier_text, HasOneTo64, IsName, IsStale}
 use Rattle.package_attrs.specs.Identifier.{IsIdentifier}
 use Rattle.package_attrs.specs.Kinds.{kinds_match}
 use Rattle.package_attrs.specs.Reading.{pair_of, name_at, stale_at, fields_of, identifier_of}
@@ -58,7 +58,7 @@ name-front =
     octets-whole
   where
     cases : (n : PackageName) → IsName n → ((x : List ℕ × ℕ) × IsPair x × (names.Preferred x.0 x.1 ≡ n)) ⊎
-        ((o : List ℕ) × IsLegacy o × (names.Legacy o ≡ n))
+        ((o : List ℕ) × HasOneTo64 o × (names.Legacy o ≡ n))
     cases (names.Preferred id version) h = inl ((id, version), h, refl)
     cases (names.Legacy octets) h = inr (octets, h, refl)
 
@@ -78,7 +78,7 @@ stale-front =
     (λ n h. (h, number_fits n h, refl)) (λ octets h. (h, omega (arith, h.1), refl)) cases number-whole octets-whole
   where
     cases : (s : Stale) → IsStale s → ((n : ℕ) × (n < 2 ^ 128) × (stales.Upto n ≡ s)) ⊎
-        ((o : List ℕ) × IsLegacy o × (stales.Legacy o ≡ s))
+        ((o : List ℕ) × HasOneTo64 o × (stales.Legacy o ≡ s))
     cases (stales.Upto n) h = inl (n, h, refl)
     cases (stales.Legacy octets) h = inr (octets, h, refl)
 

@@ -1,6 +1,8 @@
 pub mod IdentifierLaws
 pub mod Falls
+pub mod ItemLemmas
+pub mod FewNames
+pub mod CoverLemmas
 pub mod ListLaws
 pub mod ReadingLemmas
 pub mod PackageLaws
-pub mod OwnTypes

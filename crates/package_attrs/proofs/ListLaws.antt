@@ -24,14 +24,15 @@ use Rattle.package_attrs.specs.declared.community.Community.TheVariants as commu
 use Rattle.package_attrs.specs.declared.name.PackageName.{PackageName}
 use Rattle.package_attrs.specs.declared.name.PackageName.TheVariants as names
 use Rattle.package_attrs.specs.declared.package.Info.{Info}
-use Rattle.package_attrs.specs.Communities.{serial_entry_text, IsSerial, IsSerialEntry, modules_contents}
+use Rattle.package_attrs.specs.Communities.{serial_entry_text, IsSerialEntry, modules_contents}
 use Rattle.package_attrs.specs.Communities.{community_text, AreModules, IsCommunity, communities_text, AreCommunities}
-use Rattle.package_attrs.specs.Identifier.{name_text, IsName}
+use Rattle.package_attrs.specs.Identifier.{name_text, IsName, HasOneTo64}
 use Rattle.package_attrs.specs.Information.{kind_text, dependencies_text, info_text, IsInfo}
-use Rattle.package_attrs.specs.ListReading.{targets_of, nothing, block_of, serial_entry_at, modules_of}
-use Rattle.package_attrs.specs.ListReading.{community_at, communities_of, is_some_and_few, names_of, dependencies_of}
+use Rattle.package_attrs.specs.ListReading.{targets_of, modules_of, community_at, communities_of}
+use Rattle.package_attrs.specs.ListReading.{is_some_and_few, names_of, dependencies_of}
 use Rattle.package_attrs.specs.ListReading.{kind_at, info_fields_of, info_of}
 use Rattle.package_attrs.specs.Reading.{oid_at, octets_at}
+use Rattle.package_attrs.specs.SerialReading.{nothing, block_of, serial_entry_at}
 use Rattle.package_attrs.specs.Targets.{targets_text, AreTargets}
 use Rattle.package_attrs.proofs.Falls.{oid_falls, serial_entry_falls, community_falls, name_falls}
 use Rattle.package_attrs.proofs.IdentifierLaws.{name-front, name_length}
@@ -62,7 +63,7 @@ nothing-whole {V} v = record {
   again = λ w h. rw h refl;
 }
 
-octets-front : IsFront (enc 0x04) IsSerial octets_at
+octets-front : IsFront (enc 0x04) HasOneTo64 octets_at
 unfolding octets_at
 octets-front = element-front 0x04 (is_tag 0x04 refl) (λ octets h. omega (arith, h.1)) octets-whole
 
@@ -71,13 +72,13 @@ IsAll entry = entry ≡ entries.All
 
 abbrev IsSingle : SerialEntry → Type 0
 IsSingle entries.All = ⊥
-IsSingle (entries.Single serial) = IsSerial serial
+IsSingle (entries.Single serial) = HasOneTo64 serial
 IsSingle (entries.Block low high) = ⊥
 
 abbrev IsBlock : SerialEntry → Type 0
 IsBlock entries.All = ⊥
 IsBlock (entries.Single serial) = ⊥
-IsBlock (entries.Block low high) = IsSerial low × IsSerial high
+IsBlock (entries.Block low high) = HasOneTo64 low × HasOneTo64 high
 
 all-front : IsFront serial_entry_text IsAll (element 0x05 (nothing entries.All))
 all-front =
@@ -112,13 +113,13 @@ single-front =
     fits (entries.Single serial) h = omega (arith, h.1)
     fits (entries.Block low high) h = absurd h
 
-    back : (entry : SerialEntry) → IsSingle entry → (serial : List ℕ) × IsSerial serial ×
+    back : (entry : SerialEntry) → IsSingle entry → (serial : List ℕ) × HasOneTo64 serial ×
         (entries.Single serial ≡ entry)
     back entries.All h = absurd h
     back (entries.Single serial) h = (serial, h, refl)
     back (entries.Block low high) h = absurd h
 
-block-whole : IsWhole (λ x. enc 0x04 x.0 ++ enc 0x04 x.1) (λ x. IsSerial x.0 × IsSerial x.1) block_of
+block-whole : IsWhole (λ x. enc 0x04 x.0 ++ enc 0x04 x.1) (λ x. HasOneTo64 x.0 × HasOneTo64 x.1) block_of
 unfolding block_of
 block-whole = before-whole octets-front (alone-whole octets-front)
 
@@ -148,7 +149,7 @@ block-front =
           length-enc-le 0x04 high (omega (arith, h.1.1)),
         )
 
-    back : (entry : SerialEntry) → IsBlock entry → (ends : List ℕ × List ℕ) × (IsSerial ends.0 × IsSerial ends.1) ×
+    back : (entry : SerialEntry) → IsBlock entry → (ends : List ℕ × List ℕ) × (HasOneTo64 ends.0 × HasOneTo64 ends.1) ×
         (entries.Block ends.0 ends.1 ≡ entry)
     back entries.All h = absurd h
     back (entries.Single serial) h = absurd h

@@ -1,40 +1,34 @@
 -- The attributes of a type are found, and the package that attributes describe is read.
 use Rattle.std.proofs.Common.{◌≡◌, ℕ, zero, suc, ◌^◌, ◌<◌, Bool, true, false, eqb, List, [], ◌∷◌, length, map}
-use Rattle.std.proofs.Common.{Option, Some, None, Result, Ok, Err, refl, sym, subst, ◌∙◌, inl, inr, arith}
-use Rattle.std.specs.Prelude.{bytes_eq, ◌↔◌, IsTrue, IfSome, IfOk, nat_eq, option_map, slice_index_or, is_some}
+use Rattle.std.proofs.Common.{Option, Some, None, refl, sym, subst, ◌∙◌, inl, inr, arith}
+use Rattle.std.specs.Prelude.{bytes_eq, ◌↔◌, IsTrue, IfSome, nat_eq, option_map, slice_index_or}
 use Rattle.std.specs.Cmp.Lexicographic.{pointwise, same_text, other_text}
 use Rattle.std.specs.List.{AllByRecursion, find}
-use Rattle.std.proofs.lemmas.Bool.{cases_Bool, cases_eq, false≢true, eqb-true, eq-eqb}
+use Rattle.std.proofs.lemmas.Bool.{cases_Bool, false≢true, eqb-true, eq-eqb}
 use Rattle.std.proofs.lemmas.Map.Keys.{IsDistinct-head, IsDistinct-tail}
 use Rattle.std.proofs.lemmas.Slice.Eq.{bytes_eq-Decides}
 use Rattle.std.proofs.lemmas.Option.{none-some}
 use Rattle.der_core.specs.Attribute.{Attribute}
-use Rattle.der_core.specs.AttributeReading.{one_element_of}
 use Rattle.der_core.specs.AttributeView.{attribute_view}
 use Rattle.der_core.specs.declared.attribute.Attr.{Attr}
-use Rattle.der_core.specs.Element.{enc, IsElement, length_octets}
+use Rattle.der_core.specs.Element.{enc}
 use Rattle.der_core.specs.Objects.{IsOid}
-use Rattle.der_core.specs.Reading.{◌>>?◌}
 use Rattle.der_core.specs.Reads.{Reads, Answers}
 use Rattle.der_core.specs.Shapes.{Whole, IsWhole, tested}
-use Rattle.der_core.specs.Time.{utc_text, generalized_text}
-use Rattle.der_core.specs.TimeReading.{time_of}
-use Rattle.der_core.proofs.AttributeLaws.{one_element-whole}
-use Rattle.der_core.proofs.Digits.{IsOctets, IsOctets-right}
+use Rattle.der_core.specs.Time.{time_text, IsTime}
 use Rattle.der_core.proofs.Numbers.{some_is}
 use Rattle.der_core.proofs.Shapes.{alone-whole, tested-whole}
-use Rattle.der_core.proofs.Times.{utc_is, generalized_is, other_is, utc-whole, generalized-whole}
-use Rattle.der_core.proofs.Times.{length-utc, length-generalized}
+use Rattle.der_core.proofs.TimeValues.{time-front}
 use Rattle.package_attrs.specs.declared.package.Info.{Info}
 use Rattle.package_attrs.specs.AttributeTypes.{content_type, message_digest, signing_time, firmware_package_id}
 use Rattle.package_attrs.specs.AttributeTypes.{target_hardware_ids, community_identifiers, firmware_package_info}
-use Rattle.package_attrs.specs.Attributes.{HaveOwnTypes, Has, Lacks, HasOne, HasAtMostOne, IsTime, HasTime, HasInfo}
+use Rattle.package_attrs.specs.Attributes.{HaveOwnTypes, Has, Lacks, HasOne, HasAtMostOne, HasInfo}
 use Rattle.package_attrs.specs.Attributes.{Describes}
 use Rattle.package_attrs.specs.Description.{Description}
 use Rattle.package_attrs.specs.Information.{info_text, IsInfo}
-use Rattle.package_attrs.specs.PackageReading.{values_of, needed, at_most_one, one_oid_of, digest_of, is_time}
+use Rattle.package_attrs.specs.PackageReading.{values_of, needed, at_most_one, one_oid_of, digest_of, one_time_of}
 use Rattle.package_attrs.specs.PackageReading.{content_in, digest_in, identifier_in, targets_in, communities_in}
-use Rattle.package_attrs.specs.PackageReading.{info_in, has_time, package_of}
+use Rattle.package_attrs.specs.PackageReading.{info_in, time_in, package_of}
 use Rattle.package_attrs.specs.Reading.{octet_string_of}
 use Rattle.package_attrs.proofs.IdentifierLaws.{identifier-whole}
 use Rattle.package_attrs.proofs.ListLaws.{oid-front, targets-whole, communities-whole, info-whole}
@@ -176,15 +170,6 @@ sound_view text IsValid view kind attrs values None found reads = tt
 sound_view text IsValid view kind attrs values (Some r) found reads =
     sound_one text IsValid kind attrs values (Some (view r)) found reads
 
--- the same where reading takes memory
-pub sound_allocated : {V E : Type 0} (text : V → List ℕ) (IsValid : V → Type 0) (kind : List ℕ)
-    (attrs : List Attribute) (values : List ℕ) (result : Result (Option V) E) → values_of kind attrs ≡ Some values
-    → IfOk result (λ found. Reads text IsValid values found)
-    → IfOk result (λ found. IfSome found (λ v. HasOne text IsValid kind attrs v))
-sound_allocated text IsValid kind attrs values (Ok result) found reads =
-    sound_one text IsValid kind attrs values result found reads
-sound_allocated text IsValid kind attrs values (Err fault) found reads = tt
-
 needed_again : {V : Type 0} {text : V → List ℕ} {IsValid : V → Type 0} {read : Whole V} (kind : List ℕ)
     (attrs : List Attribute) (v : V) → IsWhole text IsValid read → HaveOwnTypes attrs
     → HasOne text IsValid kind attrs v → needed kind read attrs ≡ Some v
@@ -220,81 +205,18 @@ digest-whole = record {
         (tested (λ digest. eqb (length digest) 32) octet_string_of)
     sized = tested-whole (λ digest. eqb (length digest) 32) octet_string-whole
 
-some_after : {A B : Type 0} (r : Option A) (f : A → Option B) → is_some (r >>? f) ≡ true
-    → (x : A) × (y : B) × (r ≡ Some x) × (f x ≡ Some y)
-some_after {A} {B} None f e = absurd (false≢true e)
-some_after {A} {B} (Some x) f e = by_case (f x) refl e
-  where
-    by_case : (r : Option B) → f x ≡ r → is_some r ≡ true → (z : A) × (y : B) × (Some x ≡ Some z) × (f z ≡ Some y)
-    by_case None is e = absurd (false≢true e)
-    by_case (Some y) is e = (x, y, refl, is)
-
-contents_octets : (tag : ℕ) (contents : List ℕ) → IsOctets (enc tag contents) → IsOctets contents
-unfolding enc
-contents_octets tag contents octets = IsOctets-right (tag ∷ length_octets (length contents)) contents octets
-
-utc_element : (moment : ℕ) → IsElement 0x17 (utc_text moment)
-utc_element moment = record { octet = omega arith; low_bits = omega arith; fits = omega (arith, length-utc moment) }
-
-generalized_element : (moment : ℕ) → IsElement 0x18 (generalized_text moment)
-generalized_element moment =
-    record { octet = omega arith; low_bits = omega arith; fits = omega (arith, length-generalized moment) }
-
-time_of_tag : (tag : ℕ) (contents : List ℕ) (moment : ℕ) → IsOctets contents → time_of tag contents ≡ Some moment
-    → IsTime (enc tag contents)
-time_of_tag tag contents moment octets e = elim (cases_eq tag 0x17) [
-  | inl utc ↦
-      let t = utc-whole.takes contents moment octets (sym (utc_is tag contents utc) ∙ e) in
-      inl (moment, t.0, rw (utc, t.1) refl)
-  | inr not_utc ↦ elim (cases_eq tag 0x18) [
-    | inl generalized ↦
-        let t = generalized-whole.takes contents moment octets (sym (generalized_is tag contents generalized) ∙ e) in
-        inr (moment, t.0, rw (generalized, t.1) refl)
-    | inr not_generalized ↦ absurd (none-some moment (sym (other_is tag contents not_utc not_generalized) ∙ e))
-  ]
-]
-
-pub is_time_says : (values : List ℕ) → IsOctets values → is_time values ≡ true → IsTime values
-unfolding is_time
-is_time_says values octets e =
-    let s = some_after (one_element_of values) (λ x. time_of x.0 x.1) e in
-    let t = one_element-whole.takes values s.0 octets s.2 in
-    subst IsTime (sym t.1) (time_of_tag s.0.0 s.0.1 s.1 (contents_octets s.0.0 s.0.1 (subst IsOctets t.1 octets)) s.3)
-
-is_time_again : (values : List ℕ) → IsTime values → is_time values ≡ true
-unfolding is_time
-is_time_again values (inl (moment, valid, is)) =
-    rw (
-      is,
-      one_element-whole.again (0x17, utc_text moment) (utc_element moment),
-      utc_is 0x17 (utc_text moment) refl,
-      utc-whole.again moment valid,
-    ) refl
-is_time_again values (inr (moment, valid, is)) =
-    rw (
-      is,
-      one_element-whole.again (0x18, generalized_text moment) (generalized_element moment),
-      generalized_is 0x18
-          (generalized_text moment) refl,
-      generalized-whole.again moment valid,
-    ) refl
+pub one_time-whole : IsWhole time_text IsTime one_time_of
+unfolding one_time_of
+one_time-whole = alone-whole time-front
 
 -- ---- the package
 
-pub info_sound : {E : Type 0} (attrs : List Attribute) (values : List ℕ) (result : Result (Option Info) E)
-    → values_of firmware_package_info attrs ≡ Some values
-    → IfOk result (λ found. Reads info_text IsInfo values found)
-    → IfOk result (λ found. IfSome found (λ info. HasInfo attrs info))
-info_sound attrs values (Ok None) found reads = tt
-info_sound attrs values (Ok (Some info)) found reads =
+pub info_sound : (attrs : List Attribute) (values : List ℕ) (result : Option Info)
+    → values_of firmware_package_info attrs ≡ Some values → Reads info_text IsInfo values result
+    → IfSome result (λ info. HasInfo attrs info)
+info_sound attrs values None found reads = tt
+info_sound attrs values (Some info) found reads =
     inl (sound_one info_text IsInfo firmware_package_info attrs values (Some info) found reads)
-info_sound attrs values (Err fault) found reads = tt
-
-has_time_again : (attrs : List Attribute) → HaveOwnTypes attrs → HasTime attrs → has_time attrs ≡ true
-unfolding has_time
-has_time_again attrs own (inl lacks) = rw (lacks_missing signing_time attrs lacks) refl
-has_time_again attrs own (inr (values, time, has)) =
-    rw (has_found signing_time attrs values own has) (is_time_again values time)
 
 info_again : (attrs : List Attribute) (info : Info) → HaveOwnTypes attrs → HasInfo attrs info
     → info_in attrs ≡ Some info
@@ -304,13 +226,13 @@ info_again attrs info own (inr h) = rw (at_most_one_again firmware_package_info 
 
 pub package_again : (attrs : List Attribute) (d : Description) → HaveOwnTypes attrs → Describes attrs d
     → package_of attrs ≡ Some d
-unfolding package_of content_in digest_in identifier_in targets_in communities_in
+unfolding package_of content_in digest_in identifier_in time_in targets_in communities_in
 package_again attrs d own h =
     rw (
       needed_again content_type attrs d.content one_oid-whole own h.content,
       needed_again message_digest attrs d.digest digest-whole own h.digest,
       needed_again firmware_package_id attrs d.identifier identifier-whole own h.identifier,
-      has_time_again attrs own h.time,
+      at_most_one_again signing_time attrs h.time.0 one_time-whole own h.time.1,
       needed_again target_hardware_ids attrs d.targets targets-whole own h.targets,
       at_most_one_again community_identifiers attrs d.communities communities-whole own h.communities,
       info_again attrs d.info own h.info,
@@ -318,17 +240,15 @@ package_again attrs d own h =
 
 -- ---- what is read is what is described
 
-pub described : {R E : Type 0} (view : R → Description) (attrs : List Attribute) (result : Result (Option R) E)
-    → HaveOwnTypes attrs → IfOk result (λ found. Answers view found (package_of attrs))
-    → IfOk result (λ found. IfSome found (λ p. Describes attrs (view p)))
-    → IfOk result (λ found. (d : Description) → (option_map view found ≡ Some d) ↔ Describes attrs d)
-described view attrs (Ok None) own exact sound = λ d.
+pub described : {R : Type 0} (view : R → Description) (attrs : List Attribute) (result : Option R)
+    → HaveOwnTypes attrs → Answers view result (package_of attrs) → IfSome result (λ p. Describes attrs (view p))
+    → (d : Description) → (option_map view result ≡ Some d) ↔ Describes attrs d
+described view attrs None own exact sound d =
     (λ e. absurd (none-some d e), λ h. sym exact ∙ package_again attrs d own h)
-described view attrs (Ok (Some p)) own exact sound = λ d. (
+described view attrs (Some p) own exact sound d = (
   λ e. subst (λ (x : Description). Describes attrs x) (some_is (view p) d e) sound,
   λ h. sym exact ∙ package_again attrs d own h,
 )
-described view attrs (Err fault) own exact sound = tt
 
 pub one_description : (attrs : List Attribute) (d e : Description) → HaveOwnTypes attrs → Describes attrs d
     → Describes attrs e → d ≡ e

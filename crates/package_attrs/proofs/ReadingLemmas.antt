@@ -1,23 +1,15 @@
 -- From a reading to a text.
-use Rattle.std.proofs.Common.{◌≡◌, ◌<◌, ◌^◌, arith, ℕ, List, length, Option, Some, None, Result, Ok, Err, refl, sym}
+use Rattle.std.proofs.Common.{◌≡◌, ◌<◌, ◌^◌, arith, ℕ, List, length, Option, Some, None, refl, sym}
 use Rattle.std.proofs.Common.{ap, subst, ◌∙◌, inl, inr}
-use Rattle.std.specs.Prelude.{IfOk}
 use Rattle.std.proofs.lemmas.Option.{none-some}
 use Rattle.der_core.specs.Element.{enc}
-use Rattle.der_core.specs.Reads.{Reads, Answers}
+use Rattle.der_core.specs.Reads.{Answers}
 use Rattle.der_core.specs.Shapes.{Whole, IsWhole}
-use Rattle.der_core.proofs.Digits.{IsOctets}
+use Rattle.der_core.proofs.Digits.{AreOctets}
 use Rattle.der_core.proofs.Numbers.{some_is}
-use Rattle.der_core.proofs.Shapes.{is_tag, alone-whole, sized-element-front, anything-whole, IsWhole-answers}
+use Rattle.der_core.proofs.Shapes.{is_tag, alone-whole, sized-element-front, anything-whole}
 use Rattle.package_attrs.specs.Image.{IsOctetString, IsImage}
 use Rattle.package_attrs.specs.Reading.{octet_string_of}
-
--- what a reader that needs memory answers, where it has that
-pub answers-read : {V E : Type 0} {text : V → List ℕ} {IsValid : V → Type 0} {read : Whole V} (bytes : List ℕ)
-    (result : Result (Option V) E) → IsWhole text IsValid read → IsOctets bytes
-    → IfOk result (λ found. Answers (λ v. v) found (read bytes)) → IfOk result (λ found. Reads text IsValid bytes found)
-answers-read bytes (Ok found) laws octets e = IsWhole-answers bytes found laws octets e
-answers-read bytes (Err fault) laws octets e = tt
 
 -- ---- one OCTET STRING
 
@@ -25,7 +17,7 @@ pub octet_string-whole : IsWhole (enc 0x04) (λ contents. Unit {0} × (length co
 unfolding octet_string_of
 octet_string-whole = alone-whole (sized-element-front 0x04 (is_tag 0x04 refl) anything-whole)
 
-is_octet_string : (octets contents : List ℕ) → IsOctets octets → octet_string_of octets ≡ Some contents
+is_octet_string : (octets contents : List ℕ) → AreOctets octets → octet_string_of octets ≡ Some contents
     → IsOctetString octets contents
 is_octet_string octets contents are is =
     let t = octet_string-whole.takes octets contents are is in
@@ -35,7 +27,7 @@ isnt_octet_string : (octets contents : List ℕ) → octet_string_of octets ≡ 
 isnt_octet_string octets contents none h =
     none-some contents (sym none ∙ ap octet_string_of h.1 ∙ octet_string-whole.again contents (tt, h.0.fits))
 
-pub unwrapped : (octets contents : List ℕ) → IsOctets octets → octet_string_of octets ≡ Some contents
+pub unwrapped : (octets contents : List ℕ) → AreOctets octets → octet_string_of octets ≡ Some contents
     → IsImage octets contents
 unwrapped octets contents are is = inl (is_octet_string octets contents are is)
 

@@ -3,9 +3,9 @@ use Rattle.std.specs.Prelude.{◌≡◌, ℕ, List, map, length, Option, Some, N
 use Rattle.std.specs.List.{Contains, IsDistinct}
 use Rattle.der_core.specs.Attribute.{Attribute}
 use Rattle.der_core.specs.Element.{enc}
-use Rattle.der_core.specs.Moment.{IsMoment}
 use Rattle.der_core.specs.Objects.{IsOid}
-use Rattle.der_core.specs.Time.{utc_text, IsUtc, generalized_text}
+use Rattle.der_core.specs.Time.{time_text, IsTime}
+use Rattle.der_core.specs.declared.time_value.Time.{Time}
 use Rattle.package_attrs.specs.declared.community.Community.{Community}
 use Rattle.package_attrs.specs.declared.package.Info.{Info}
 use Rattle.package_attrs.specs.AttributeTypes.{content_type, message_digest, signing_time, firmware_package_id}
@@ -18,7 +18,7 @@ use Rattle.package_attrs.specs.Targets.{targets_text, AreTargets}
 
 -- ---- attributes of a type
 
--- no type stands twice (RFC 5652, section 11)
+-- No type stands twice. RFC 5652, sections 11.1 to 11.3, asks it of three types; of the others it is this project's own.
 abbrev pub HaveOwnTypes : List Attribute → Type 0
 HaveOwnTypes attrs = IsDistinct bytes_eq (map (λ a. a.kind) attrs)
 
@@ -49,15 +49,9 @@ HasContentType attrs id = HasOne (enc 0x06) IsOid content_type attrs id
 abbrev pub HasDigest : List Attribute → List ℕ → Type 0
 HasDigest attrs digest = HasOne (enc 0x04) (λ octets. length octets ≡ 32) message_digest attrs digest
 
--- the octets are one time, in either of its forms (RFC 5652, section 11.3)
-abbrev pub IsTime : List ℕ → Type 0
-IsTime values =
-    ((moment : ℕ) × IsUtc moment × (values ≡ enc 0x17 (utc_text moment)))
-    ⊎ ((moment : ℕ) × IsMoment moment × (values ≡ enc 0x18 (generalized_text moment)))
-
--- the moment of signing is one time, where it is there
-abbrev pub HasTime : List Attribute → Type 0
-HasTime attrs = Lacks signing_time attrs ⊎ ((values : List ℕ) × IsTime values × Has signing_time attrs values)
+-- the moment of signing, where it is there (RFC 5652, section 11.3)
+abbrev pub HasTime : List Attribute → Option Time → Type 0
+HasTime attrs time = HasAtMostOne time_text IsTime signing_time attrs time
 
 -- the package's identifier (RFC 4108, section 2.2.3)
 abbrev pub HasIdentifier : List Attribute → Named → Type 0
@@ -82,7 +76,7 @@ HasInfo attrs info =
 pub record Describes (attrs : List Attribute) (d : Description) : Type 0 where
   pub content : HasContentType attrs d.content
   pub digest : HasDigest attrs d.digest
-  pub time : HasTime attrs
+  pub time : (time : Option Time) × HasTime attrs time
   pub identifier : HasIdentifier attrs d.identifier
   pub targets : HasTargets attrs d.targets
   pub communities : HasCommunities attrs d.communities

@@ -18,7 +18,7 @@
 --       high OCTET STRING } }
 --
 -- Either list may be empty. Here a serial number has 1 to 64 octets.
-use Rattle.std.specs.Prelude.{ℕ, ◌<◌, ◌≤◌, ◌^◌, List, [], ◌++◌, length}
+use Rattle.std.specs.Prelude.{ℕ, ◌<◌, ◌^◌, List, [], ◌++◌, length}
 use Rattle.std.specs.List.{AllByRecursion, flat_map}
 use Rattle.der_core.specs.Element.{enc}
 use Rattle.der_core.specs.Objects.{IsOid}
@@ -26,6 +26,7 @@ use Rattle.package_attrs.specs.declared.community.SerialEntry.{SerialEntry}
 use Rattle.package_attrs.specs.declared.community.SerialEntry.TheVariants as entries
 use Rattle.package_attrs.specs.declared.community.Community.{Community}
 use Rattle.package_attrs.specs.declared.community.Community.TheVariants as communities
+use Rattle.package_attrs.specs.Identifier.{HasOneTo64}
 
 -- ---- serial entries
 
@@ -35,15 +36,11 @@ serial_entry_text entries.All = enc 0x05 []
 serial_entry_text (entries.Single serial) = enc 0x04 serial
 serial_entry_text (entries.Block low high) = enc 0x30 (enc 0x04 low ++ enc 0x04 high)
 
--- a serial number has 1 to 64 octets
-abbrev pub IsSerial : List ℕ → Type 0
-IsSerial serial = (0 < length serial) × (length serial ≤ 64)
-
 -- a serial entry that has a text; the ends of a block may stand in any order
 abbrev pub IsSerialEntry : SerialEntry → Type 0
 IsSerialEntry entries.All = Unit {0}
-IsSerialEntry (entries.Single serial) = IsSerial serial
-IsSerialEntry (entries.Block low high) = IsSerial low × IsSerial high
+IsSerialEntry (entries.Single serial) = HasOneTo64 serial
+IsSerialEntry (entries.Block low high) = HasOneTo64 low × HasOneTo64 high
 
 -- ---- communities
 

@@ -52,19 +52,19 @@ view i = record { name = i.name; stale = i.stale }
 abbrev pub identifier_text : Named → List ℕ
 identifier_text i = enc 0x30 (name_text i.name ++ text_if stale_text i.stale)
 
--- a legacy value has 1 to 64 octets
-abbrev pub IsLegacy : List ℕ → Type 0
-IsLegacy octets = (0 < length octets) × (length octets ≤ 64)
+-- 1 to 64 octets, as a legacy value has, and a serial number
+abbrev pub HasOneTo64 : List ℕ → Type 0
+HasOneTo64 octets = (0 < length octets) × (length octets ≤ 64)
 
 -- a name that has a text
 abbrev pub IsName : PackageName → Type 0
 IsName (names.Preferred id version) = IsOid id × (version < 2 ^ 128)
-IsName (names.Legacy octets) = IsLegacy octets
+IsName (names.Legacy octets) = HasOneTo64 octets
 
 -- a stale value that has a text
 abbrev pub IsStale : Stale → Type 0
 IsStale (stales.Upto n) = n < 2 ^ 128
-IsStale (stales.Legacy octets) = IsLegacy octets
+IsStale (stales.Legacy octets) = HasOneTo64 octets
 
 -- an identifier that has a text
 pub record IsIdentifier (i : Named) : Type 0 where

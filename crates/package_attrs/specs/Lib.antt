@@ -1,6 +1,8 @@
 pub mod Kinds
 pub mod Identifier
 pub mod Reading
+pub mod Items
+pub mod SerialReading
 pub mod ListReading
 pub mod Description
 pub mod Targets
@@ -10,3 +12,4 @@ pub mod AttributeTypes
 pub mod Attributes
 pub mod Image
 pub mod PackageReading
+pub mod Covers

@@ -1,17 +1,17 @@
 -- The reading of target hardware, communities and package information (RFC 4108, sections 2.2.4, 2.2.8 and 2.2.9), by
 -- the shapes of their texts.
-use Rattle.std.specs.Prelude.{ℕ, Bool, List, [], length, nat_lt, ◌==◌, ◌&&◌, if◌then◌else◌, Some, None}
+use Rattle.std.specs.Prelude.{ℕ, Bool, List, [], length, nat_lt, ◌&&◌}
 use Rattle.std.specs.Option.{unwrap_or}
-use Rattle.der_core.specs.Reading.{number_of, oid_of, octets_of}
+use Rattle.der_core.specs.Reading.{number_of, oid_of}
 use Rattle.der_core.specs.Shapes.{Front, Whole, element, alone, before, optional, choice, mapped, tested, listed}
 use Rattle.der_core.specs.Shapes.{maybe_before}
 use Rattle.package_attrs.specs.declared.community.SerialEntry.{SerialEntry}
-use Rattle.package_attrs.specs.declared.community.SerialEntry.TheVariants as entries
 use Rattle.package_attrs.specs.declared.community.Community.{Community}
 use Rattle.package_attrs.specs.declared.community.Community.TheVariants as communities
 use Rattle.package_attrs.specs.declared.name.PackageName.{PackageName}
 use Rattle.package_attrs.specs.declared.package.Info.{Info}
-use Rattle.package_attrs.specs.Reading.{oid_at, octets_at, name_at}
+use Rattle.package_attrs.specs.Reading.{oid_at, name_at}
+use Rattle.package_attrs.specs.SerialReading.{serial_entry_at}
 
 -- ---- target hardware
 
@@ -20,21 +20,6 @@ unfoldable pub targets_of : Whole (List (List ℕ))
 targets_of = alone (element 0x30 (listed oid_at))
 
 -- ---- communities
-
--- no octets, for a value that needs none
-abbrev pub nothing : {V : Type 0} → V → Whole V
-nothing v bytes = if length bytes == 0 then Some v else None
-
--- the two ends of a block
-unfoldable pub block_of : Whole (List ℕ × List ℕ)
-block_of = before octets_at (alone octets_at)
-
--- a serial entry at the front: all where a NULL stands there, one where an OCTET STRING does, and else a block
-unfoldable pub serial_entry_at : Front SerialEntry
-serial_entry_at =
-    choice 0x05 (element 0x05 (nothing entries.All))
-    (choice 0x04 (element 0x04 (mapped (λ serial. entries.Single serial) octets_of))
-    (element 0x30 (mapped (λ ends. entries.Block ends.0 ends.1) block_of)))
 
 -- a hardware type and serial entries
 unfoldable pub modules_of : Whole (List ℕ × List SerialEntry)

@@ -1,15 +1,14 @@
 -- The reading of a package's attributes. That it is the package that they describe is proved in the contract of
 -- `read_package`.
-use Rattle.std.specs.Prelude.{ℕ, Bool, true, List, length, nat_eq, ◌==◌, if◌then◌else◌}
-use Rattle.std.specs.Prelude.{Option, Some, None, is_some, option_map}
+use Rattle.std.specs.Prelude.{ℕ, List, length, nat_eq, ◌==◌, Option, Some, None, option_map}
 use Rattle.std.specs.Cmp.Lexicographic.{pointwise}
 use Rattle.std.specs.List.{find}
 use Rattle.std.specs.Option.{option_map_or, unwrap_or}
 use Rattle.der_core.specs.Attribute.{Attribute}
-use Rattle.der_core.specs.AttributeReading.{one_element_of}
 use Rattle.der_core.specs.Reading.{◌>>?◌}
 use Rattle.der_core.specs.Shapes.{Whole, alone, tested}
-use Rattle.der_core.specs.TimeReading.{time_of}
+use Rattle.der_core.specs.TimeReading.{time_at}
+use Rattle.der_core.specs.declared.time_value.Time.{Time}
 use Rattle.package_attrs.specs.declared.community.Community.{Community}
 use Rattle.package_attrs.specs.declared.package.Info.{Info}
 use Rattle.package_attrs.specs.AttributeTypes.{content_type, message_digest, signing_time, firmware_package_id}
@@ -41,9 +40,9 @@ one_oid_of = alone oid_at
 unfoldable pub digest_of : Whole (List ℕ)
 digest_of = tested (λ digest. length digest == 32) octet_string_of
 
--- one time
-unfoldable pub is_time : List ℕ → Bool
-is_time values = is_some (one_element_of values >>? λ x. time_of x.0 x.1)
+-- one time, in either form
+unfoldable pub one_time_of : Whole Time
+one_time_of = alone time_at
 
 -- ---- the parts of a package
 
@@ -65,9 +64,8 @@ communities_in attrs = at_most_one community_identifiers communities_of attrs
 unfoldable pub info_in : List Attribute → Option Info
 info_in attrs = at_most_one firmware_package_info info_of attrs >>? λ found. Some (unwrap_or found no_info)
 
--- the moment of signing is one time, where it is there
-unfoldable pub has_time : List Attribute → Bool
-has_time attrs = option_map_or is_time (values_of signing_time attrs) true
+unfoldable pub time_in : List Attribute → Option (Option Time)
+time_in attrs = at_most_one signing_time one_time_of attrs
 
 -- the package that the attributes describe
 unfoldable pub package_of : List Attribute → Option Description
@@ -75,7 +73,7 @@ package_of attrs =
     content_in attrs >>? λ content.
     digest_in attrs >>? λ digest.
     identifier_in attrs >>? λ identifier.
-    if has_time attrs then (
+    time_in attrs >>? λ time.
     targets_in attrs >>? λ targets.
     communities_in attrs >>? λ communities.
     info_in attrs >>? λ info.
@@ -87,4 +85,3 @@ package_of attrs =
       communities = communities;
       info = info;
     })
-    ) else None

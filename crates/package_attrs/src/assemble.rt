@@ -1,29 +1,28 @@
 // Reading a package from its signed attributes.
-ghost use Rattle.std.specs.Prelude.{◌≡◌, ◌↔◌, length, Some, map, option_map, IfOk, IfSome, IsTrue};
-ghost use Rattle.der_core.specs.AttributeReading.{one_element_of};
+ghost use Rattle.std.specs.Prelude.{◌≡◌, ◌↔◌, length, Some, map, option_map, IfSome};
 ghost use Rattle.der_core.specs.AttributeView.{attribute_view};
 ghost use Rattle.der_core.specs.Element.{enc};
 ghost use Rattle.der_core.specs.Objects.{IsOid};
 ghost use Rattle.der_core.specs.Reads.{Reads, Answers};
+ghost use Rattle.der_core.specs.Time.{time_text, IsTime};
 ghost use Rattle.package_attrs.specs.Attributes.{HaveOwnTypes, HasContentType, HasDigest};
-ghost use Rattle.package_attrs.specs.Attributes.{IsTime, HasTime, HasIdentifier, HasTargets};
+ghost use Rattle.package_attrs.specs.Attributes.{HasTime, HasIdentifier, HasTargets};
 ghost use Rattle.package_attrs.specs.Attributes.{HasCommunities, HasInfo, Describes};
 ghost use Rattle.package_attrs.specs.Description.{Description, description};
 ghost use Rattle.package_attrs.specs.Identifier.{view};
-ghost use Rattle.package_attrs.specs.PackageReading.{one_oid_of, digest_of, is_time};
+ghost use Rattle.package_attrs.specs.PackageReading.{one_oid_of, digest_of, one_time_of};
 ghost use Rattle.package_attrs.specs.PackageReading.{content_in, digest_in, identifier_in};
-ghost use Rattle.package_attrs.specs.PackageReading.{has_time, targets_in, communities_in};
+ghost use Rattle.package_attrs.specs.PackageReading.{time_in, targets_in, communities_in};
 ghost use Rattle.package_attrs.specs.PackageReading.{info_in, package_of};
 
 use crate::find_attribute::values_of;
 use crate::image::read_octet_string;
 use crate::targets::read_oid_at;
 use crate::{
-    Communities, Identifier, Info, Names, Oids, Package, attribute_types as types,
+    Communities, Dependencies, Identifier, Info, Package, Targets, attribute_types as types,
     read_communities, read_identifier, read_info, read_targets,
 };
-use der_core::{Attr, Cursor, Oid, read_time};
-use std::alloc::{AllocError, Global};
+use der_core::{Attr, Cursor, Oid, Time};
 
 #[tactic(auto, unfolding(crate::specs::PackageReading::one_oid_of))]
 fn one_oid(values: &[u8]) -> Option<Oid>
@@ -58,36 +57,22 @@ fn read_digest(values: &[u8]) -> Option<[u8; 32]>
     digest(values)
 }
 
-// The tag and the contents, where the octets are one element.
-#[tactic(auto, unfolding(der_core::specs::AttributeReading::one_element_of))]
-fn one_element(octets: &[u8]) -> Option<(u8, &[u8])>
-    ensures { Answers (λ x. (x.0, x.1.now)) result (one_element_of octets.now) }
+#[tactic(auto, unfolding(crate::specs::PackageReading::one_time_of, der_core::specs::TimeReading::time_at))]
+fn one_time(values: &[u8]) -> Option<Time>
+    ensures { Answers (λ time. time) result (one_time_of values.now) }
 {
-    let mut items = Cursor::new(octets);
+    let mut items = Cursor::new(values);
     let (tag, contents, _) = items.next()?;
-    if items.at_end() {
-        Some((tag, contents))
-    } else {
-        None
-    }
+    let time = Time::read(tag, contents)?;
+    if items.at_end() { Some(time) } else { None }
 }
 
-#[tactic(auto, unfolding(crate::specs::PackageReading::is_time))]
-fn reads_as_time(values: &[u8]) -> bool
-    ensures { result ≡ is_time values.now }
+// The time, in either form, where the octets are exactly one.
+fn read_one_time(values: &[u8]) -> Option<Time>
+    ensures spelled { Reads time_text IsTime values.now result }
+    ensures exact { Answers (λ time. time) result (one_time_of values.now) }
 {
-    match one_element(values) {
-        Some((tag, contents)) => read_time(tag, contents).is_some(),
-        None => false,
-    }
-}
-
-// Whether the octets are one time, in either form.
-fn is_time(values: &[u8]) -> bool
-    ensures sound { IsTrue result → IsTime values.now }
-    ensures exact { result ≡ is_time values.now }
-{
-    reads_as_time(values)
+    one_time(values)
 }
 
 #[tactic(auto, unfolding(crate::specs::PackageReading::content_in))]
@@ -114,118 +99,83 @@ fn identifier_in(attrs: &[Attr<'_>]) -> Option<Identifier>
     read_identifier(values_of(attrs, &types::FIRMWARE_PACKAGE_ID)?)
 }
 
-// Whether the moment of signing, where it is there, is one time.
-#[tactic(auto, unfolding(crate::specs::PackageReading::has_time))]
-fn has_time(attrs: &[Attr<'_>]) -> bool
+// The moment of signing, where it is there.
+#[tactic(auto, unfolding(crate::specs::PackageReading::time_in))]
+fn time_in(attrs: &[Attr<'_>]) -> Option<Option<Time>>
     requires { HaveOwnTypes (map attribute_view attrs.now) }
-    ensures exact { result ≡ has_time (map attribute_view attrs.now) }
-    ensures sound { IsTrue result → HasTime (map attribute_view attrs.now) }
+    ensures exact { Answers (λ time. time) result (time_in (map attribute_view attrs.now)) }
+    ensures sound { IfSome result (λ time. HasTime (map attribute_view attrs.now) time) }
 {
     match values_of(attrs, &types::SIGNING_TIME) {
-        Some(values) => is_time(values),
-        None => true,
+        Some(values) => Some(Some(read_one_time(values)?)),
+        None => Some(None),
     }
 }
 
 #[tactic(auto, unfolding(crate::specs::PackageReading::targets_in))]
-fn targets_in(alloc: Global, attrs: &[Attr<'_>]) -> Result<Option<Oids>, AllocError>
-    ensures exact { IfOk result (λ found.
-        Answers (λ ids. ids) found (targets_in (map attribute_view attrs.now))) }
-    ensures sound { IfOk result (λ found.
-        IfSome found (λ ids. HasTargets (map attribute_view attrs.now) ids)) }
+fn targets_in<'a>(attrs: &[Attr<'a>]) -> Option<Targets<'a>>
+    ensures exact { Answers (λ ids. ids) result (targets_in (map attribute_view attrs.now)) }
+    ensures sound { IfSome result (λ ids. HasTargets (map attribute_view attrs.now) ids) }
 {
-    let Some(values) = values_of(attrs, &types::TARGET_HARDWARE_IDS) else {
-        return Ok(None);
-    };
-    read_targets(alloc, values)
+    read_targets(values_of(attrs, &types::TARGET_HARDWARE_IDS)?)
 }
 
 #[tactic(auto, unfolding(crate::specs::PackageReading::communities_in))]
-fn communities_in(
-    alloc: Global,
-    attrs: &[Attr<'_>],
-) -> Result<Option<Option<Communities>>, AllocError>
+fn communities_in<'a>(attrs: &[Attr<'a>]) -> Option<Option<Communities<'a>>>
     requires { HaveOwnTypes (map attribute_view attrs.now) }
-    ensures exact { IfOk result (λ found.
-        Answers (λ list. list) found (communities_in (map attribute_view attrs.now))) }
-    ensures sound { IfOk result (λ found.
-        IfSome found (λ list. HasCommunities (map attribute_view attrs.now) list)) }
+    ensures exact { Answers (λ list. list) result (communities_in (map attribute_view attrs.now)) }
+    ensures sound { IfSome result (λ list. HasCommunities (map attribute_view attrs.now) list) }
 {
-    let Some(values) = values_of(attrs, &types::COMMUNITY_IDENTIFIERS) else {
-        return Ok(Some(None));
-    };
-    let Some(communities) = read_communities(alloc, values)? else {
-        return Ok(None);
-    };
-    Ok(Some(Some(communities)))
+    match values_of(attrs, &types::COMMUNITY_IDENTIFIERS) {
+        Some(values) => Some(Some(read_communities(values)?)),
+        None => Some(None),
+    }
 }
 
 #[tactic(auto, unfolding(crate::specs::PackageReading::info_in))]
-fn info_in(alloc: Global, attrs: &[Attr<'_>]) -> Result<Option<Info>, AllocError>
+fn info_in<'a>(attrs: &[Attr<'a>]) -> Option<Info<'a>>
     requires { HaveOwnTypes (map attribute_view attrs.now) }
-    ensures exact { IfOk result (λ found.
-        Answers (λ info. info) found (info_in (map attribute_view attrs.now))) }
-    ensures sound { IfOk result (λ found.
-        IfSome found (λ info. HasInfo (map attribute_view attrs.now) info)) }
+    ensures exact { Answers (λ info. info) result (info_in (map attribute_view attrs.now)) }
+    ensures sound { IfSome result (λ info. HasInfo (map attribute_view attrs.now) info) }
 {
-    let Some(values) = values_of(attrs, &types::FIRMWARE_PACKAGE_INFO) else {
-        return Ok(Some(Info {
+    match values_of(attrs, &types::FIRMWARE_PACKAGE_INFO) {
+        Some(values) => read_info(values),
+        None => Some(Info {
             kind: None,
-            dependencies: Names::new(Vec::new(alloc)),
-        }));
-    };
-    read_info(alloc, values)
+            dependencies: Dependencies::none(),
+        }),
+    }
 }
 
 #[tactic(auto, unfolding(crate::specs::PackageReading::package_of))]
-fn read_whole(alloc: Global, attrs: &[Attr<'_>]) -> Result<Option<Package>, AllocError>
+fn read_whole<'a>(attrs: &[Attr<'a>]) -> Option<Package<'a>>
     requires { HaveOwnTypes (map attribute_view attrs.now) }
-    ensures exact { IfOk result (λ found.
-        Answers description found (package_of (map attribute_view attrs.now))) }
-    ensures sound { IfOk result (λ found.
-        IfSome found (λ p. Describes (map attribute_view attrs.now) (description p))) }
+    ensures exact { Answers description result (package_of (map attribute_view attrs.now)) }
+    ensures sound { IfSome result
+        (λ p. Describes (map attribute_view attrs.now) (description p)) }
 {
-    let Some(content) = content_in(attrs) else {
-        return Ok(None);
-    };
-    let Some(digest) = digest_in(attrs) else {
-        return Ok(None);
-    };
-    let Some(identifier) = identifier_in(attrs) else {
-        return Ok(None);
-    };
-    if !has_time(attrs) {
-        return Ok(None);
-    }
-    let Some(targets) = targets_in(alloc, attrs)? else {
-        return Ok(None);
-    };
-    let Some(communities) = communities_in(alloc, attrs)? else {
-        return Ok(None);
-    };
-    let Some(info) = info_in(alloc, attrs)? else {
-        return Ok(None);
-    };
-    Ok(Some(Package {
+    let content = content_in(attrs)?;
+    let digest = digest_in(attrs)?;
+    let identifier = identifier_in(attrs)?;
+    time_in(attrs)?;
+    Some(Package {
         content,
         digest,
         identifier,
-        targets,
-        communities,
-        info,
-    }))
+        targets: targets_in(attrs)?,
+        communities: communities_in(attrs)?,
+        info: info_in(attrs)?,
+    })
 }
 
 /// The package that signed attributes describe, of which no type stands twice (RFC 4108, section
 /// 2.2; RFC 5652, section 11). None where an attribute that must be there isn't, or one that is
 /// read doesn't have exactly one value, of its form. Attributes of other types are passed over.
-pub fn read_package(alloc: Global, attrs: &[Attr<'_>]) -> Result<Option<Package>, AllocError>
+pub fn read_package<'a>(attrs: &[Attr<'a>]) -> Option<Package<'a>>
     requires { HaveOwnTypes (map attribute_view attrs.now) }
-    ensures described { IfOk result (λ found. (d : Description)
-        → (option_map description found ≡ Some d)
-        ↔ Describes (map attribute_view attrs.now) d) }
-    ensures exact { IfOk result (λ found.
-        Answers description found (package_of (map attribute_view attrs.now))) }
+    ensures described { (d : Description) → (option_map description result ≡ Some d)
+        ↔ Describes (map attribute_view attrs.now) d }
+    ensures exact { Answers description result (package_of (map attribute_view attrs.now)) }
 {
-    read_whole(alloc, attrs)
+    read_whole(attrs)
 }

@@ -1,8 +1,9 @@
 // The communities of modules that a package is for.
 ghost use Rattle.std.specs.Prelude.{◌≡◌};
+ghost use Rattle.std.specs.Iterator.{YieldsFirst, item_count};
 
-use der_core::{Octets64, Oid};
-use std::alloc::AllocError;
+use crate::read_community::{read_community, read_serial_entry};
+use der_core::{Cursor, Octets64, Oid};
 use std::marker::Model;
 
 /// Modules of one hardware type, by their serial numbers (RFC 4108, section 2.2.8).
@@ -16,98 +17,104 @@ pub enum SerialEntry {
     Block { low: Octets64, high: Octets64 },
 }
 
-/// Serial entries in their order.
-#[derive(Debug, Drop)]
-pub struct SerialEntries {
-    entries: Vec<SerialEntry>,
+/// Serial entries in their order, each read from its octets when it is asked for. Takes no memory.
+#[derive(Drop)]
+pub struct SerialEntries<'a> {
+    pub(crate) octets: &'a [u8],
 }
 
-impl Model for SerialEntries {
+impl<'a> Model for SerialEntries<'a> {
     ghost use Rattle.std.specs.Prelude.{List};
     ghost use Rattle.package_attrs.specs.declared.community.SerialEntry.{SerialEntry};
+    ghost use Rattle.package_attrs.specs.Items.{items_of, AreItems};
+    ghost use Rattle.package_attrs.specs.SerialReading.{serial_entry_at};
 
     ghost Value = { List SerialEntry };
 
-    ghost view = { λ a. a.entries.items };
+    ghost view = { λ s. items_of serial_entry_at s.octets.now };
+
+    ghost invariant = { λ s. AreItems serial_entry_at s.octets.now };
 }
 
-impl SerialEntries {
-    /// The entries of the vector. Takes no memory.
-    pub fn new(entries: Vec<SerialEntry>) -> SerialEntries
-        ensures entries { result ≡ entries.items }
+impl<'a> SerialEntries<'a> {
+    /// The same serial entries, to go through.
+    pub fn iter(&self) -> SerialEntries<'a>
+        ensures same { result ≡ self.now }
     {
-        SerialEntries { entries }
-    }
-
-    pub fn as_slice(&self) -> &[SerialEntry]
-        ensures entries { result.now ≡ self.now }
-    {
-        &self.entries
+        SerialEntries {
+            octets: self.octets,
+        }
     }
 }
 
-impl Clone for SerialEntries {
-    ghost is_clone = { λ a b. b ≡ a };
+impl<'a> Iterator for SerialEntries<'a> {
+    type Item = SerialEntry;
 
-    fn clone(&self) -> Result<SerialEntries, AllocError> {
-        Ok(SerialEntries {
-            entries: self.entries.clone()?,
-        })
+    ghost next_gives = { YieldsFirst (λ entries. entries) };
+
+    ghost remaining = { item_count (λ entries. entries) };
+
+    fn next(&mut self) -> Option<SerialEntry> {
+        let mut items = Cursor::new(self.octets);
+        let entry = read_serial_entry(&mut items)?;
+        self.octets = items.rest();
+        Some(entry)
     }
 }
 
 /// A community of modules (RFC 4108, section 2.2.8).
-#[derive(Debug, Drop)]
-pub enum Community {
+#[derive(Drop)]
+pub enum Community<'a> {
     /// The modules that list this identifier.
     Group(Oid),
     /// The modules of a hardware type that a serial entry names.
     Modules {
         hw_type: Oid,
-        serials: SerialEntries,
+        serials: SerialEntries<'a>,
     },
 }
 
-impl Clone for Community {
-    ghost is_clone = { λ a b. b ≡ a };
-
-    fn clone(&self) -> Result<Community, AllocError> {
-        Ok(match self {
-            Community::Group(group) => Community::Group(*group),
-            Community::Modules { hw_type, serials } => Community::Modules {
-                hw_type: *hw_type,
-                serials: serials.clone()?,
-            },
-        })
-    }
+/// Communities in their order, each read from its octets when it is asked for. Takes no memory.
+#[derive(Drop)]
+pub struct Communities<'a> {
+    pub(crate) octets: &'a [u8],
 }
 
-/// Communities in their order.
-#[derive(Debug, Drop)]
-pub struct Communities {
-    communities: Vec<Community>,
-}
-
-impl Model for Communities {
+impl<'a> Model for Communities<'a> {
     ghost use Rattle.std.specs.Prelude.{List};
     ghost use Rattle.package_attrs.specs.declared.community.Community.{Community};
+    ghost use Rattle.package_attrs.specs.Items.{items_of, AreItems};
+    ghost use Rattle.package_attrs.specs.ListReading.{community_at};
 
     ghost Value = { List Community };
 
-    ghost view = { λ a. a.communities.items };
+    ghost view = { λ c. items_of community_at c.octets.now };
+
+    ghost invariant = { λ c. AreItems community_at c.octets.now };
 }
 
-impl Communities {
-    /// The communities of the vector. Takes no memory.
-    pub fn new(communities: Vec<Community>) -> Communities
-        ensures communities { result ≡ communities.items }
+impl<'a> Communities<'a> {
+    /// The same communities, to go through.
+    pub fn iter(&self) -> Communities<'a>
+        ensures same { result ≡ self.now }
     {
-        Communities { communities }
+        Communities {
+            octets: self.octets,
+        }
     }
+}
 
-    pub fn as_slice(&self) -> &[Community]
-        ensures communities { result.now ≡ self.now }
-    {
-        &self.communities
+impl<'a> Iterator for Communities<'a> {
+    type Item = Community<'a>;
+
+    ghost next_gives = { YieldsFirst (λ communities. communities) };
+
+    ghost remaining = { item_count (λ communities. communities) };
+
+    fn next(&mut self) -> Option<Community<'a>> {
+        let mut items = Cursor::new(self.octets);
+        let community = read_community(&mut items)?;
+        self.octets = items.rest();
+        Some(community)
     }
 }

@@ -4,10 +4,15 @@
 //! - `read_identifier`, `read_targets`, `read_communities` and `read_info` answer exactly where the
 //!   octets, all of them, are the text of an identifier, of hardware types, of communities, or of a
 //!   package's type and dependencies, and their value is the one that the octets spell (`spelled`).
-//!   The first takes no memory.
+//! - `Targets`, `Communities`, `SerialEntries` and `Dependencies` stay in place as the octets that
+//!   were read, and are seen as the lists that these spell. Each is an iterator that reads the next
+//!   value when it is asked for (`next_gives`: `YieldsFirst`), so going through one takes time
+//!   linear in its octets. `Names` is a list of names in memory of its own.
 //! - `read_package` answers the package that attributes describe, and none where they describe none
 //!   (`described`). What they must hold for that is said in `specs/Attributes`.
-//! - `have_own_types` tells whether no type stands twice, as `read_package` asks (`own`).
+//! - `identifier_covers` and `targets_cover` tell whether a value that an authority lists covers
+//!   another (`covers`); `covers_are_told` is the law that their tests do (`identifiers`,
+//!   `targets`).
 //! - `image_of` gives the contents where a content is exactly one OCTET STRING, and else the
 //!   content (`image`).
 //! - `Identifier` holds no name of one kind with a stale value of the other (`alike`).
@@ -15,14 +20,17 @@
 //!   the laws that two values never share a text (`unique`), and that a text is read as its own
 //!   value (`read`). `one_description` and `one_image` are the laws that attributes describe one
 //!   package at most, and that there is one image in a content.
-//! - `Names`, `Oids`, `SerialEntries` and `Communities` are lists, seen as such.
+//!
+//! No call takes memory but `Dependencies::to_names` and what clones `Names`: what a stranger sends
+//! costs its own octets alone.
 //!
 //! Each reader of octets, and `read_package`, has one more clause, `exact`: its answer is what a
-//! function of `specs/Reading`, `specs/ListReading` or `specs/PackageReading` gives. Who reads
-//! contracts can pass over it.
+//! function of `specs/Reading`, `specs/SerialReading`, `specs/ListReading` or
+//! `specs/PackageReading` gives. Who reads contracts can pass over it.
 //!
-//! Below it stands `der_core`, with the DER of which the texts are made. `report_text` prints
-//! identifiers, and `fwload_top` reads the one that a run is asked for.
+//! Below it stands `der_core`, with the DER of which the texts are made, and for the tests
+//! `attribute_set`. `config_table` keeps names, `package_rules` and `dependency_check` go through
+//! the lists, `report_text` prints identifiers, and `fwload_top` reads what a run is given.
 //!
 //! Narrower than the standard: a legacy name, a legacy stale value and a serial number have 1 to
 //! 64 octets, numbers end at 2^128 - 1, and a preferred name with a legacy stale value, or the
@@ -34,6 +42,8 @@
 mod assemble;
 mod attribute_types;
 mod community;
+mod covers;
+mod dependencies;
 mod find_attribute;
 mod identifier;
 mod image;
@@ -41,8 +51,6 @@ mod information;
 mod laws;
 mod name;
 mod names;
-mod oids;
-mod own_types;
 mod package;
 mod read_community;
 mod reading;
@@ -52,6 +60,8 @@ mod tests;
 
 pub use assemble::read_package;
 pub use community::{Communities, Community, SerialEntries, SerialEntry};
+pub use covers::{covers_are_told, identifier_covers, targets_cover};
+pub use dependencies::Dependencies;
 pub use identifier::Identifier;
 pub use image::image_of;
 pub use information::read_info;
@@ -61,9 +71,7 @@ pub use laws::{
 };
 pub use name::{PackageName, Stale};
 pub use names::Names;
-pub use oids::Oids;
-pub use own_types::have_own_types;
 pub use package::{Info, Package};
 pub use read_community::read_communities;
 pub use reading::read_identifier;
-pub use targets::read_targets;
+pub use targets::{Targets, read_targets};

