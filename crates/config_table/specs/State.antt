@@ -1,5 +1,5 @@
 -- What a module has installed, and what it takes for stale (RFC 4108, section 2.2.3).
-use Rattle.std.specs.Prelude.{ℕ, List, [], ◌∷◌, map, length, max, Option, Some, None, option_map, option_and_then, if◌then◌else◌}
+use Rattle.std.specs.Prelude.{ℕ, List, [], ◌∷◌, map, max, Option, Some, None, option_map, option_and_then, if◌then◌else◌}
 use Rattle.std.specs.List.{find}
 use Rattle.sha2.specs.Sha256.{sha256}
 use Rattle.package_attrs.specs.declared.name.PackageName.{PackageName}
@@ -137,7 +137,3 @@ entry_with f entry = record {
 
 abbrev pub state_with : {I J : Type 0} → (I → J) → State I → State J
 state_with f state = record { packages = map (entry_with f) state.packages; stale = state.stale }
-
--- the state with its images' lengths alone, in octets
-abbrev pub sizes : State (List ℕ) → State ℕ
-sizes state = state_with length state

@@ -5,11 +5,12 @@
 //!   neither do an identifier or a legacy name stand twice (`packages`: `distinct`).
 //! - `with_package` accepts a package: it takes the place of the one with its identifier or its
 //!   legacy name, or goes last, and an identifier's stale number becomes the greater one (`ok`).
-//!   `replace` and `raise_stale` are its two halves (`ok`), and on want of memory they leave the
-//!   state as it was (`err`).
+//!   `replace` and `raise_stale` are its two halves (`ok`), and `take_stale` takes an entry as it
+//!   stands in a manifest; on want of memory they leave the state as it was (`err`).
 //! - `package`, `find`, `stale_of`, `stale_hit` and `stale_entry` answer by the lists, and None
-//!   exactly where a list has no such entry (`entry`, `found`, `met`, `number`, `stale`). `copy`
-//!   equals its source (`same`).
+//!   exactly where a list has no such entry (`entry`, `found`, `met`, `number`, `stale`).
+//!   `is_installed` and `is_met` tell of one name (`installed`, `met`). `copy` equals its source
+//!   (`same`).
 //! - `StaleEntry::made` is the entry that a stale value makes beside a name (`made`), and
 //!   `StaleEntry::last` the last name that an entry makes stale (`last`).
 //! - `names_stay_distinct`, `stale_stays_stale`, `packages_keep_their_places`,

@@ -4,8 +4,8 @@ ghost use Rattle.std.specs.Option.{option_map_or, option_copied};
 ghost use Rattle.package_attrs.specs.Kinds.{kinds_match};
 ghost use Rattle.config_table.specs.Names.{is_same, is_at_least};
 ghost use Rattle.package_attrs.specs.Description.{description};
-ghost use Rattle.config_table.specs.State.{empty_state, placed, raised_by, made_stale, greater, stale_of, offer_of, with_package};
-ghost use Rattle.config_table.specs.Rules.{IsStale, IsInstalled, IsMet, IsDistinctState};
+ghost use Rattle.config_table.specs.State.{empty_state, placed, raised, raised_by, made_stale, greater, stale_of, offer_of, with_package};
+ghost use Rattle.config_table.specs.Rules.{IsStale, is_installed, IsInstalled, is_met, IsMet, IsDistinctState};
 ghost use Rattle.config_table.specs.Stored.{entry_of};
 
 use crate::key::Key;
@@ -82,6 +82,25 @@ impl State {
         self.packages.get(&Key { name: *name })
     }
 
+    /// Whether a package of the name's identifier, in whatever version, or of its legacy name is
+    /// installed.
+    pub fn is_installed(&self, name: &PackageName) -> bool
+        ensures installed { result ≡ is_installed name.now self.now.packages }
+    {
+        self.find(name).is_some()
+    }
+
+    /// Whether a package of the need's identifier and at least its version, or of that very legacy
+    /// name, is installed.
+    pub fn is_met(&self, need: &PackageName) -> bool
+        ensures met { result ≡ is_met need.now self.now.packages }
+    {
+        match self.find(need) {
+            Some(installed) => is_at_least(&installed.name, need),
+            None => false,
+        }
+    }
+
     pub fn copy(&self) -> Result<State, AllocError>
         ensures same { IfOk result (λ copy. copy ≡ self.now) }
     {
@@ -104,8 +123,20 @@ impl State {
         Ok(())
     }
 
-    /// Makes stale what the stale value says beside the name: an identifier's number becomes the
-    /// greater of its own and this one, and what isn't there yet goes last.
+    /// Takes an entry as it stands in a manifest: an identifier's number becomes the greater of its
+    /// own and this one, and what isn't there yet goes last.
+    pub fn take_stale(&mut self, new: StaleEntry) -> Result<(), AllocError>
+        ensures ok { OnOk result
+            (self.new ≡ record self.old { stale = raised new self.old.stale }) }
+        ensures err { OnErr result (self.new ≡ self.old) }
+    {
+        let key = Key { name: new.last() };
+        let entry = raised_entry(self.stale.get(&key), new);
+        self.stale.insert(key, entry)?;
+        Ok(())
+    }
+
+    /// Makes stale what the stale value says beside the name.
     pub fn raise_stale(&mut self, name: &PackageName, stale: &Stale) -> Result<(), AllocError>
         requires alike { IsTrue (kinds_match name.now (Some stale.now)) }
         ensures ok { OnOk result (self.new ≡ record self.old {
@@ -113,13 +144,10 @@ impl State {
         }) }
         ensures err { OnErr result (self.new ≡ self.old) }
     {
-        let Some(made) = StaleEntry::made(name, stale) else {
-            unreachable!();
-        };
-        let key = Key { name: made.last() };
-        let entry = raised_entry(self.stale.get(&key), made);
-        self.stale.insert(key, entry)?;
-        Ok(())
+        match StaleEntry::made(name, stale) {
+            Some(made) => self.take_stale(made),
+            None => Ok(()),
+        }
     }
 
     /// The state with an offered package that is accepted: it goes into the place of the one with
@@ -128,7 +156,7 @@ impl State {
     /// blocks. On want of memory the state is gone.
     pub fn with_package(
         self,
-        offered: &Package,
+        offered: &Package<'_>,
         digest: [u8; 32],
         length: u32,
         blocks: BlockNumbers,
@@ -137,6 +165,10 @@ impl State {
             digest (record { length = length; blocks = blocks }) self) }
     {
         let identifier = &offered.identifier;
+        let needs = offered
+            .info
+            .dependencies
+            .to_names(*self.packages.allocator())?;
         let mut state = self;
         state.replace(Installed {
             name: identifier.name,
@@ -144,7 +176,7 @@ impl State {
             length,
             blocks,
             kind: offered.info.kind,
-            needs: offered.info.dependencies.clone()?,
+            needs,
         })?;
         if let Some(stale) = &identifier.stale {
             state.raise_stale(&identifier.name, stale)?;
@@ -208,7 +240,7 @@ mod tests {
     use super::*;
     use crate::BlockNumbers;
     use der_core::{Octets64, read_oid};
-    use package_attrs::{Identifier, Info, Names, Oids};
+    use package_attrs::{Identifier, Names, read_info, read_targets};
     use std::test::Fail;
 
     // 1.2.3 and the octet in this version, or the legacy name of that octet.
@@ -300,23 +332,21 @@ mod tests {
     }
 
     // 1.2.3.6 in version 2, which makes version 1 stale, has type 9 and needs 1.2.3.4.
-    fn offered(alloc: Global) -> Result<Package, Fail> {
-        let id = read_oid(&[0x2a, 3, 6]).ok_or("a bad name")?;
+    fn offered() -> Option<Package<'static>> {
+        let id = read_oid(&[0x2a, 3, 6])?;
         let identifier = Identifier {
             name: PackageName::Preferred { id, version: 2 },
             stale: Some(Stale::Upto(1)),
         };
-        let need = name(4, Some(1)).ok_or("a bad name")?;
-        Ok(Package {
+        Some(Package {
             content: id,
             digest: [0; 32],
             identifier,
-            targets: Oids::new(Vec::new(alloc)),
+            targets: read_targets(b"\x30\x00")?,
             communities: None,
-            info: Info {
-                kind: Some(9),
-                dependencies: Names::new(vec![in alloc; need]?),
-            },
+            info: read_info(
+                b"\x30\x0f\x02\x01\x09\x30\x0a\x30\x08\x06\x03\x2a\x03\x04\x02\x01\x01",
+            )?,
         })
     }
 
@@ -326,7 +356,8 @@ mod tests {
         let mut state = State::new(rt.alloc());
         install(rt.alloc(), &mut state, name(6, Some(1)), 1)?;
         let blocks = BlockNumbers::new(vec![in rt.alloc(); 3]?);
-        let state = state.with_package(&offered(rt.alloc())?, [1; 32], 5, blocks)?;
+        let offered = offered().ok_or("a bad package")?;
+        let state = state.with_package(&offered, [1; 32], 5, blocks)?;
         assert_eq!(rt; state.packages(), 1);
         let installed = state.package(0).ok_or("none is installed")?;
         assert_eq!(rt; (installed.length, installed.kind), (5, Some(9)));
