@@ -7,10 +7,10 @@ use Rattle.std.specs.Option.{option_map_or}
 use Rattle.package_attrs.specs.declared.name.PackageName.{PackageName}
 use Rattle.config_table.specs.Names.{is_same, is_at_least}
 use Rattle.config_table.specs.State.{Entry, State, Offer, entry_with, state_with, with_package}
-use Rattle.config_table.specs.Rules.{IsInstalled, IsMet, IsDistinctState}
+use Rattle.config_table.specs.Rules.{IsInstalled, is_met, IsMet, IsDistinctState}
 use Rattle.config_table.proofs.MetLemmas.{is_met-with_package}
 use Rattle.dependency_check.specs.Dependencies.{AllInstalled, AllMet, KeepsNeeds, Unbroken, IsFirstBroken}
-use Rattle.dependency_check.specs.Deciding.{is_met, is_lost, loses_need}
+use Rattle.dependency_check.specs.Deciding.{is_lost, loses_need}
 use Rattle.dependency_check.proofs.PlaceLemmas.{all_at, all_from, all_then, one_passes, none_passes}
 
 -- the parts of a test that passes
@@ -31,7 +31,7 @@ module _ {I : Type 0} (offer : Offer) (digest : List ℕ) (image : I) (before : 
       is_met-with_package offer digest image before distinct need
       ∙ by (is_same need offer.name) (is_at_least offer.name need) kept
     where
-      by : (b c : Bool) → (b && (not c && is_met before need)) ≡ false
+      by : (b c : Bool) → (b && (not c && is_met need before.packages)) ≡ false
           → (if b then c else list_any (λ entry. is_at_least entry.name need) before.packages) ≡ true
       by true true kept = refl
       by true false kept = absurd (true≢false (sym met ∙ kept))
@@ -41,18 +41,18 @@ module _ {I : Type 0} (offer : Offer) (digest : List ℕ) (image : I) (before : 
   not_met : (need : PackageName) → is_lost offer.name before need ≡ true
       → IsMet need (with_package offer digest image before).packages → ⊥
   not_met need lost met =
-      let parts = both (is_same need offer.name) (not (is_at_least offer.name need) && is_met before need) lost in
+      let parts = both (is_same need offer.name) (not (is_at_least offer.name need) && is_met need before.packages) lost in
       let older =
       not_true (is_at_least offer.name need)
-      (both (not (is_at_least offer.name need)) (is_met before need) parts.1).0 in
+      (both (not (is_at_least offer.name need)) (is_met need before.packages) parts.1).0 in
       true≢false (sym met ∙ is_met-with_package offer digest image before distinct need
       ∙ ap (λ b. if b then is_at_least offer.name need
       else list_any (λ entry. is_at_least entry.name need) before.packages) parts.0 ∙ older)
 
   was_met : (need : PackageName) → is_lost offer.name before need ≡ true → IsMet need before.packages
   was_met need lost =
-      let parts = both (is_same need offer.name) (not (is_at_least offer.name need) && is_met before need) lost in
-      (both (not (is_at_least offer.name need)) (is_met before need) parts.1).1
+      let parts = both (is_same need offer.name) (not (is_at_least offer.name need) && is_met need before.packages) lost in
+      (both (not (is_at_least offer.name need)) (is_met need before.packages) parts.1).1
 
   -- a package that loses no need keeps its needs
   pub keeps_needs : (entry : Entry I) → loses_need offer.name before entry ≡ false

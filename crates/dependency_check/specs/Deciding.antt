@@ -4,19 +4,12 @@ use Rattle.std.specs.Prelude.{Bool, ◌&&◌, not}
 use Rattle.std.specs.List.{list_any}
 use Rattle.package_attrs.specs.declared.name.PackageName.{PackageName}
 use Rattle.config_table.specs.Names.{is_same, is_at_least}
+use Rattle.config_table.specs.Rules.{is_met}
 use Rattle.config_table.specs.State.{Entry, State}
-
--- whether the name is installed, in whatever version
-abbrev pub is_installed : {I : Type 0} → State I → PackageName → Bool
-is_installed state name = list_any (λ entry. is_same name entry.name) state.packages
-
--- whether the need is met
-abbrev pub is_met : {I : Type 0} → State I → PackageName → Bool
-is_met state need = list_any (λ entry. is_at_least entry.name need) state.packages
 
 -- whether the need is met, and isn't once a package of this name is installed
 abbrev pub is_lost : {I : Type 0} → PackageName → State I → PackageName → Bool
-is_lost name state need = is_same need name && (not (is_at_least name need) && is_met state need)
+is_lost name state need = is_same need name && (not (is_at_least name need) && is_met need state.packages)
 
 -- whether the package isn't replaced and loses a need
 abbrev pub loses_need : {I : Type 0} → PackageName → State I → Entry I → Bool

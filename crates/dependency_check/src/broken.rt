@@ -8,13 +8,12 @@ ghost use Rattle.config_table.specs.Stored.{Stored, entry_of};
 ghost use Rattle.dependency_check.specs.Dependencies.{Unbroken, IsFirstBroken};
 ghost use Rattle.dependency_check.specs.Deciding.{is_lost, loses_need};
 
-use crate::needs::is_met;
 use config_table::{Installed, State, is_at_least, is_same};
 use package_attrs::{Package, PackageName};
 
 /// The place of the first installed package that this one doesn't replace, and that has a need
 /// which is met in the state and not once this one is installed. Takes no memory.
-pub fn broken_by(state: &State, offered: &Package) -> Option<usize>
+pub fn broken_by(state: &State, offered: &Package<'_>) -> Option<usize>
     ensures unbroken { let described = description offered.now in (digest : List ℕ) (image : Stored)
         → IsNone result ↔ Unbroken described.identifier.name state.now
         (with_package (offer_of described) digest image state.now) }
@@ -68,7 +67,7 @@ fn loses_one(state: &State, name: &PackageName, needs: &[PackageName]) -> bool
 fn is_lost(state: &State, name: &PackageName, need: &PackageName) -> bool
     ensures lost { result ≡ is_lost name.now state.now need.now }
 {
-    is_same(need, name) && !is_at_least(name, need) && is_met(state, need)
+    is_same(need, name) && !is_at_least(name, need) && state.is_met(need)
 }
 
 #[cfg(test)]
@@ -77,93 +76,90 @@ mod tests {
     use crate::{Unmet, unmet};
     use config_table::BlockNumbers;
     use der_core::{Octets64, read_oid};
-    use package_attrs::{Identifier, Info, Names, Oids};
+    use package_attrs::{Identifier, Names, read_info, read_targets};
     use std::alloc::Global;
     use std::test::Fail;
 
     // 1.2.3 and the octet in this version, or the legacy name of that octet.
-    fn name(octet: u8, version: Option<u128>) -> Result<PackageName, Fail> {
+    fn name(octet: u8, version: Option<u128>) -> Option<PackageName> {
         match version {
             Some(version) => {
-                let id = read_oid(&[0x2a, 3, octet]).ok_or("a bad name")?;
-                Ok(PackageName::Preferred { id, version })
+                let id = read_oid(&[0x2a, 3, octet])?;
+                Some(PackageName::Preferred { id, version })
             }
-            None => {
-                let octets = Octets64::new(&[octet]).ok_or("a bad name")?;
-                Ok(PackageName::Legacy(octets))
-            }
+            None => Some(PackageName::Legacy(Octets64::new(&[octet])?)),
         }
     }
 
-    fn install(
+    fn installed(
         alloc: Global,
-        state: &mut State,
-        name: PackageName,
-        need: PackageName,
-    ) -> Result<(), Fail> {
-        let installed = Installed {
-            name,
+        name: Option<PackageName>,
+        need: Option<PackageName>,
+    ) -> Result<Installed, Fail> {
+        Ok(Installed {
+            name: name.ok_or("a bad name")?,
             digest: [0; 32],
             length: 1,
             blocks: BlockNumbers::new(Vec::new(alloc)),
             kind: None,
-            needs: Names::new(vec![in alloc; need]?),
-        };
-        state.replace(installed)?;
-        Ok(())
+            needs: Names::new(vec![in alloc; need.ok_or("a bad need")?]?),
+        })
     }
 
     // 1.2.3.2 version 4 needs a legacy name that isn't there, and 1.2.3.3 needs 1.2.3.2 version 4.
     fn two_packages(alloc: Global) -> Result<State, Fail> {
         let mut state = State::new(alloc);
-        install(alloc, &mut state, name(2, Some(4))?, name(9, None)?)?;
-        install(alloc, &mut state, name(3, Some(1))?, name(2, Some(4))?)?;
+        state.replace(installed(alloc, name(2, Some(4)), name(9, None))?)?;
+        state.replace(installed(alloc, name(3, Some(1)), name(2, Some(4)))?)?;
         Ok(state)
     }
 
-    // A package of this name with these dependencies.
-    fn package(alloc: Global, name: PackageName, needs: &[PackageName]) -> Result<Package, Fail> {
-        let content = read_oid(&[0x2a]).ok_or("a bad identifier")?;
-        Ok(Package {
-            content,
+    // A package of this name with the dependencies in these octets.
+    fn package(name: PackageName, info: &[u8]) -> Option<Package<'_>> {
+        Some(Package {
+            content: read_oid(&[0x2a])?,
             digest: [0; 32],
             identifier: Identifier { name, stale: None },
-            targets: Oids::new(Vec::new(alloc)),
+            targets: read_targets(b"\x30\x00")?,
             communities: None,
-            info: Info {
-                kind: None,
-                dependencies: Names::new(needs.to_vec(alloc)?),
-            },
+            info: read_info(info)?,
         })
+    }
+
+    // The place of the first that a package of this name breaks.
+    fn breaks(state: &State, octet: u8, version: Option<u128>) -> Option<usize> {
+        broken_by(state, &package(name(octet, version)?, b"\x30\x00")?)
     }
 
     #[test]
     fn tells_who_is_broken(rt: HostRuntime) -> Result<(), Fail> {
         let state = two_packages(rt.alloc())?;
-        for (name, broken) in [
-            (name(2, Some(3))?, Some(1)),
-            (name(2, Some(5))?, None),
-            (name(9, None)?, None),
-        ] {
-            assert_eq!(rt; broken_by(&state, &package(rt.alloc(), name, &[])?), broken);
-        }
+        assert_eq!(rt; breaks(&state, 2, Some(3)), Some(1));
+        assert_eq!(rt; breaks(&state, 2, Some(5)), None);
+        assert_eq!(rt; breaks(&state, 9, None), None);
         Ok(())
     }
+
+    // What a package with the dependencies in these octets lacks.
+    fn lacks(state: &State, info: &[u8]) -> Option<Option<Unmet>> {
+        Some(unmet(state, &package(name(8, None)?, info)?))
+    }
+
+    // 1.2.3.2 version 4; then 1.2.3.3 version 2 behind it; and both with the legacy name 02.
+    const ONE: &[u8] = b"\x30\x0c\x30\x0a\x30\x08\x06\x03\x2a\x03\x02\x02\x01\x04";
+
+    const TWO: &[u8] = b"\x30\x16\x30\x14\x30\x08\x06\x03\x2a\x03\x02\x02\x01\x04\
+        \x30\x08\x06\x03\x2a\x03\x03\x02\x01\x02";
+
+    const THREE: &[u8] = b"\x30\x19\x30\x17\x30\x08\x06\x03\x2a\x03\x03\x02\x01\x02\
+        \x30\x08\x06\x03\x2a\x03\x02\x02\x01\x04\x04\x01\x02";
 
     #[test]
     fn tells_what_is_unmet(rt: HostRuntime) -> Result<(), Fail> {
         let state = two_packages(rt.alloc())?;
-        let one = [name(2, Some(4))?];
-        let two = [name(2, Some(4))?, name(3, Some(2))?];
-        let three = [name(3, Some(2))?, name(2, Some(4))?, name(2, None)?];
-        for (needs, answer) in [
-            (one.as_slice(), None),
-            (two.as_slice(), Some(Unmet::TooOld(1))),
-            (three.as_slice(), Some(Unmet::Missing(2))),
-        ] {
-            let offered = package(rt.alloc(), name(8, None)?, needs)?;
-            assert_eq!(rt; unmet(&state, &offered), answer);
-        }
+        assert_eq!(rt; lacks(&state, ONE), Some(None));
+        assert_eq!(rt; lacks(&state, TWO), Some(Some(Unmet::TooOld(1))));
+        assert_eq!(rt; lacks(&state, THREE), Some(Some(Unmet::Missing(2))));
         Ok(())
     }
 }

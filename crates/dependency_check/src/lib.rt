@@ -11,8 +11,8 @@
 //! - `first_places_are_one` is the law that there is one such answer at most, and
 //!   `images_do_not_matter` that the rules see nothing of the images.
 //!
-//! Neither call takes memory. Below stands `config_table`, with the lists and what it means there
-//! that a need is met. The judge of packages asks both.
+//! Neither call takes memory. Below stands `config_table`, with the lists, and with what it means and
+//! how it is told that a need is met. The judge of packages asks both.
 #![tactic(auto)]
 
 mod broken;

@@ -2,15 +2,15 @@
 ghost use Rattle.std.specs.Prelude.{◌≡◌, ◌↔◌, not, position, IsNone, IfSome, IsSomeAnd};
 ghost use Rattle.package_attrs.specs.Description.{description};
 ghost use Rattle.dependency_check.specs.Dependencies.{AllInstalled, AllMet, IsFirstUnmet, IsMissing, IsTooOld};
-ghost use Rattle.dependency_check.specs.Deciding.{is_installed, is_met};
+ghost use Rattle.config_table.specs.Rules.{is_installed, is_met};
 
 use crate::Unmet;
-use config_table::{State, is_at_least};
-use package_attrs::{Package, PackageName};
+use config_table::State;
+use package_attrs::{Dependencies, Package};
 
 /// The first of the package's dependencies that isn't installed in any version, and if there is
 /// none, the first that is installed in too small a version. Takes no memory.
-pub fn unmet(state: &State, offered: &Package) -> Option<Unmet>
+pub fn unmet(state: &State, offered: &Package<'_>) -> Option<Unmet>
     ensures met { let needs = (description offered.now).info.dependencies in IsNone result
         ↔ (AllInstalled needs state.now.packages × AllMet needs state.now.packages) }
     ensures first { IfSome result
@@ -23,10 +23,10 @@ pub fn unmet(state: &State, offered: &Package) -> Option<Unmet>
         IsSomeAnd result IsTooOld
         ↔ (AllInstalled needs state.now.packages × (¬ AllMet needs state.now.packages)) }
 {
-    first_unmet(state, offered.info.dependencies.as_slice())
+    first_unmet(state, &offered.info.dependencies)
 }
 
-fn first_unmet(state: &State, needs: &[PackageName]) -> Option<Unmet>
+fn first_unmet(state: &State, needs: &Dependencies<'_>) -> Option<Unmet>
     ensures met { IsNone result
         ↔ (AllInstalled needs.now state.now.packages × AllMet needs.now state.now.packages) }
     ensures first { IfSome result (IsFirstUnmet needs.now state.now.packages) }
@@ -40,29 +40,15 @@ fn first_unmet(state: &State, needs: &[PackageName]) -> Option<Unmet>
     }
 }
 
-fn first_missing(state: &State, needs: &[PackageName]) -> Option<usize>
-    ensures first { result ≡ position (λ need. not (is_installed state.now need)) needs.now }
+fn first_missing(state: &State, needs: &Dependencies<'_>) -> Option<usize>
+    ensures first { result
+        ≡ position (λ need. not (is_installed need state.now.packages)) needs.now }
 {
-    needs.iter().position(|need| !is_installed(state, need))
+    needs.iter().position(|need| !state.is_installed(&need))
 }
 
-fn first_too_old(state: &State, needs: &[PackageName]) -> Option<usize>
-    ensures first { result ≡ position (λ need. not (is_met state.now need)) needs.now }
+fn first_too_old(state: &State, needs: &Dependencies<'_>) -> Option<usize>
+    ensures first { result ≡ position (λ need. not (is_met need state.now.packages)) needs.now }
 {
-    needs.iter().position(|need| !is_met(state, need))
-}
-
-fn is_installed(state: &State, name: &PackageName) -> bool
-    ensures installed { result ≡ is_installed state.now name.now }
-{
-    state.find(name).is_some()
-}
-
-pub(crate) fn is_met(state: &State, need: &PackageName) -> bool
-    ensures met { result ≡ is_met state.now need.now }
-{
-    match state.find(need) {
-        Some(installed) => is_at_least(&installed.name, need),
-        None => false,
-    }
+    needs.iter().position(|need| !state.is_met(&need))
 }

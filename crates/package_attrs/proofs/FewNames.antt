@@ -2,7 +2,7 @@
 use Rattle.std.proofs.Common.{◌≡◌, ℕ, ◌<◌, ◌≤◌, true, false, ltb, List, [], ◌∷◌, ◌++◌, length, Option, Some, None}
 use Rattle.std.proofs.Common.{refl, sym, ◌∙◌, ap, arith, inl, inr}
 use Rattle.std.specs.Prelude.{is_some, if◌then◌else◌}
-use Rattle.std.proofs.lemmas.Bool.{lt-ltb, le-ltb, cases_Bool, false≢true}
+use Rattle.std.proofs.lemmas.Bool.{lt-ltb, le-ltb, ltb-true, and_parts, cases_Bool, false≢true}
 use Rattle.std.proofs.lemmas.List.{length-append}
 use Rattle.std.proofs.lemmas.Option.{none-some}
 use Rattle.der_core.specs.Reading.{◌>>?◌}
@@ -79,13 +79,20 @@ all_read octets items front count is most none so_far =
 -- octets that are few names are such names
 pub few_items : (octets : List ℕ) → is_some (names_of octets) ≡ true
     → AreItems name_at octets × (names_of octets ≡ Some (items_of name_at octets))
+    × (length (items_of name_at octets) ≤ 8)
 few_items octets some = by_case (listed name_at octets) refl
   where
     by_case : (r : Option (List PackageName)) → listed name_at octets ≡ r
         → AreItems name_at octets × (names_of octets ≡ Some (items_of name_at octets))
+        × (length (items_of name_at octets) ≤ 8)
     by_case None is = absurd (false≢true (no_names octets is ∙ some))
     by_case (Some names) is = elim (cases_Bool (is_some_and_few names)) [
-      | inl few ↦ (rw is refl, names_are octets ∙ rw (is, few) refl)
+      | inl few ↦
+          let parts = and_parts (ltb 0 (length names)) (ltb (length names) 9) few in (
+            rw is refl,
+            names_are octets ∙ rw (is, few) refl,
+            rw is (omega (arith, ltb-true (length names) 9 parts.1)),
+          )
       | inr not_few ↦
           let found = ap is_some (names_are octets ∙ ap few_of is) ∙ few_or_not names ∙ not_few in
           absurd (false≢true (sym found ∙ some))

@@ -1,5 +1,5 @@
 // The packages that a package needs.
-ghost use Rattle.std.specs.Prelude.{◌≡◌, [], is_some, IfOk};
+ghost use Rattle.std.specs.Prelude.{◌≡◌, ◌≤◌, [], length, is_some, IfOk};
 ghost use Rattle.std.specs.Iterator.{YieldsFirst, item_count};
 ghost use Rattle.der_core.specs.Reads.{Answers};
 ghost use Rattle.package_attrs.specs.ListReading.{names_of};
@@ -13,15 +13,15 @@ use std::marker::Model;
 // How many dependencies a package has at most.
 const MOST_DEPENDENCIES: u8 = 8;
 
-/// Names of packages in their order, each read from its octets when it is asked for. Takes no
-/// memory.
+/// At most 8 names of packages in their order, each read from its octets when it is asked for.
+/// Takes no memory.
 #[derive(Drop)]
 pub struct Dependencies<'a> {
     octets: &'a [u8],
 }
 
 impl<'a> Model for Dependencies<'a> {
-    ghost use Rattle.std.specs.Prelude.{List};
+    ghost use Rattle.std.specs.Prelude.{◌≤◌, List, length};
     ghost use Rattle.package_attrs.specs.declared.name.PackageName.{PackageName};
     ghost use Rattle.package_attrs.specs.Items.{items_of, AreItems};
     ghost use Rattle.package_attrs.specs.Reading.{name_at};
@@ -30,7 +30,8 @@ impl<'a> Model for Dependencies<'a> {
 
     ghost view = { λ d. items_of name_at d.octets.now };
 
-    ghost invariant = { λ d. AreItems name_at d.octets.now };
+    ghost invariant = { λ d. AreItems name_at d.octets.now
+        × (length (items_of name_at d.octets.now) ≤ 8) };
 }
 
 impl<'a> Dependencies<'a> {
@@ -44,6 +45,7 @@ impl<'a> Dependencies<'a> {
     /// The same names, to go through.
     pub fn iter(&self) -> Dependencies<'a>
         ensures same { result ≡ self.now }
+        ensures few { length self.now ≤ 8 }
     {
         Dependencies {
             octets: self.octets,

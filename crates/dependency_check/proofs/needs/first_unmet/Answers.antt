@@ -1,12 +1,11 @@
 use Rattle.std.proofs.Common.{sym, ◌∙◌, refl, true≢false}
-use Rattle.config_table.specs.Rules.{IsInstalled, IsMet}
-use Rattle.dependency_check.specs.Deciding.{is_installed, is_met}
+use Rattle.config_table.specs.Rules.{is_installed, IsInstalled, is_met, IsMet}
 use Rattle.dependency_check.proofs.PlaceLemmas.{all_pass, fails_first, not_all}
 use Rattle.dependency_check.proofs.needs.first_unmet.Goals as goal
 
 pub returns-in-Some-clause-first : goal.returns-in-Some-clause-first
 returns-in-Some-clause-first c =
-    fails_first (is_installed c.args.state.now) c.args.needs.now c.in-Some.place
+    fails_first (λ need. is_installed need c.args.state.now.packages) c.args.needs.now c.in-Some.place
     (sym c.first_missing.ensures.first ∙ c.in-Some.is)
 
 pub returns-in-Some-clause-met : goal.returns-in-Some-clause-met
@@ -18,8 +17,8 @@ returns-in-Some-clause-met c = (
 
 pub returns-in-Some-first_too_old-clause-first : goal.returns-in-Some-first_too_old-clause-first
 returns-in-Some-first_too_old-clause-first c = (
-  all_pass (is_installed c.args.state.now) c.args.needs.now (sym c.first_missing.ensures.first ∙ c.in-None.is),
-  fails_first (is_met c.args.state.now) c.args.needs.now c.in-Some-first_too_old.place
+  all_pass (λ need. is_installed need c.args.state.now.packages) c.args.needs.now (sym c.first_missing.ensures.first ∙ c.in-None.is),
+  fails_first (λ need. is_met need c.args.state.now.packages) c.args.needs.now c.in-Some-first_too_old.place
       (sym c.first_too_old.ensures.first ∙ c.in-Some-first_too_old.is),
 )
 
@@ -33,8 +32,8 @@ returns-in-Some-first_too_old-clause-met c = (
 pub returns-in-None-first_too_old-clause-met : goal.returns-in-None-first_too_old-clause-met
 returns-in-None-first_too_old-clause-met c = (
   λ e. (
-    all_pass (is_installed c.args.state.now) c.args.needs.now (sym c.first_missing.ensures.first ∙ c.in-None.is),
-    all_pass (is_met c.args.state.now) c.args.needs.now
+    all_pass (λ need. is_installed need c.args.state.now.packages) c.args.needs.now (sym c.first_missing.ensures.first ∙ c.in-None.is),
+    all_pass (λ need. is_met need c.args.state.now.packages) c.args.needs.now
         (sym c.first_too_old.ensures.first ∙ c.in-None-first_too_old.is),
   ),
   λ all. refl,

@@ -1,4 +1,4 @@
-use Rattle.std.proofs.Common.{sym, ◌∙◌, ap}
+use Rattle.std.proofs.Common.{length, sym, ◌∙◌, ap, arith}
 use Rattle.package_attrs.specs.Items.{items_of}
 use Rattle.package_attrs.specs.Reading.{name_at}
 use Rattle.package_attrs.proofs.Falls.{name_falls}
@@ -7,21 +7,23 @@ use Rattle.package_attrs.proofs.dependencies.DependenciesIterator.next.Goals as 
 
 pub returns-in_err-name-clause-steps : goal.returns-in_err-name-clause-steps
 returns-in_err-name-clause-steps c =
-    let none = sym c.self.view_is ∙ no_item name_at c.self.inside.octets.now c.self.invariant
+    let none = sym c.self.view_is ∙ no_item name_at c.self.inside.octets.now c.self.invariant.0
     (ap name_at (sym c.new-items.ensures.all) ∙ c.in_err-name.ensures.exact) in
     rw c.from_residual.ensures (none, none)
 
 pub invariant_of-self : goal.invariant_of-self
 invariant_of-self c =
-    (passed name_at c.self.inside.octets.now c.new-items.result c.read_name.new.fields c.rest-self-inside.result.now
-    c.in_ok-name.name name_falls c.self.invariant c.new-items.ensures.all c.in_ok-name.ensures.exact
-    c.rest-self-inside.ensures.rest).0
+    let next =
+    passed name_at c.self.inside.octets.now c.new-items.result c.read_name.new.fields c.rest-self-inside.result.now
+    c.in_ok-name.name name_falls c.self.invariant.0 c.new-items.ensures.all c.in_ok-name.ensures.exact
+    c.rest-self-inside.ensures.rest in
+    (next.0, omega (arith, c.self.invariant.1, ap length next.1))
 
 pub returns-clause-steps : goal.returns-clause-steps
 returns-clause-steps c =
     sym c.self.view_is
     ∙ (passed name_at c.self.inside.octets.now c.new-items.result c.read_name.new.fields c.rest-self-inside.result.now
-    c.in_ok-name.name name_falls c.self.invariant c.new-items.ensures.all c.in_ok-name.ensures.exact
+    c.in_ok-name.name name_falls c.self.invariant.0 c.new-items.ensures.all c.in_ok-name.ensures.exact
     c.rest-self-inside.ensures.rest).1
 
 pub returns-clause-goes : goal.returns-clause-goes
