@@ -1,12 +1,8 @@
 #!/bin/bash
 # Times `ident`: identifiers of 16, 32 and 64 octets, and inputs of 2^24, 2^25 and 2^26 octets, with
 # the most memory that the process held. It needs the built program (./demo builds it) and GNU time.
-set -euo pipefail
 cd "$(dirname "$0")/.."
-program=$PWD/crates/fwload/out/fwload
-[ -x "$program" ] || { echo "bench: there is no $program; run ./demo first" >&2; exit 1; }
-room=$(mktemp -d)
-trap 'rm -rf "$room"' EXIT
+. bench/program.sh
 runs=200
 
 # An identifier of so many octets, with a legacy name.
@@ -27,7 +23,5 @@ done
 
 for power in 24 25 26; do
     head -c $((2 ** power)) /dev/zero >"$room/input"
-    /usr/bin/time -f '%e seconds, at most %M KiB' -o "$room/time" \
-        "$program" flash ident <"$room/input" >"$room/line" || true
-    echo "an input of 2^$power octets, $((2 ** (power - 10))) KiB: $(tail -n 1 "$room/time")"
+    echo "an input of 2^$power octets, $((2 ** (power - 10))) KiB: $(measured "$room/input" flash ident)"
 done

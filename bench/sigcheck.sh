@@ -1,12 +1,8 @@
 #!/bin/bash
 # Times `sigcheck` over many runs, and prints the blocks of SHA-256 a second that its checks make beside
 # those of the kit's own sha2 on single blocks. It needs the built program (./demo builds it).
-set -euo pipefail
 cd "$(dirname "$0")/.."
-program=$PWD/crates/fwload/out/fwload
-[ -x "$program" ] || { echo "bench: there is no $program; run ./demo first" >&2; exit 1; }
-room=$(mktemp -d)
-trap 'rm -rf "$room"' EXIT
+. bench/program.sh
 runs=1000
 
 # two signatures with H5 and W8: 2 * 34 chains, and a few blocks more for messages and trees

@@ -16,7 +16,8 @@
 //!   serial numbers holds its two ends and no serial number of another length (`ends`, `length`).
 //!
 //! `specs/Rules` and `specs/Communities` state the rules, and `specs/Conditions` puts them into two
-//! lists, between which the conditions on the image itself stand. No call takes memory.
+//! lists, between which the conditions on the image itself stand. No call takes memory, and each goes
+//! through the lists of a package once, one value after the other.
 //!
 //! Below stand `package_attrs` with what a package says, `config_table` with the tables, and
 //! `dependency_check` with the rules on dependencies. The judge of packages asks both calls.
@@ -27,6 +28,8 @@ mod module;
 mod overflow;
 mod refusal;
 mod target;
+#[cfg(test)]
+mod tests;
 
 pub use laws::{blocks_hold_their_ends, images_do_not_matter};
 pub use module::HardwareModule;

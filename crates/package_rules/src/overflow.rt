@@ -20,7 +20,7 @@ const MOST_STALE_ENTRIES: usize = 256;
 /// The first of the conditions 39 and 40 that the package fails, or None where it fails none:
 /// with it, at most 64 packages are installed and at most 256 stale entries are there. Takes no
 /// memory.
-pub fn first_overflow(state: &State, offered: &Package) -> Option<Condition>
+pub fn first_overflow(state: &State, offered: &Package<'_>) -> Option<Condition>
     ensures hold { let described = description offered.now in (digest : List ℕ) (image : Stored)
         → IsNone result ↔ AllHold (overflow_conditions
         (with_package (offer_of described) digest image state.now)) }
@@ -38,7 +38,7 @@ pub fn first_overflow(state: &State, offered: &Package) -> Option<Condition>
 }
 
 // A package that is installed already takes the place of the old one.
-fn has_room_for_package(state: &State, offered: &Package) -> bool
+fn has_room_for_package(state: &State, offered: &Package<'_>) -> bool
     ensures room { let described = description offered.now in (digest : List ℕ) (image : Stored)
         → IsTrue result
         ↔ (length (with_package (offer_of described) digest image state.now).packages ≤ 64) }
@@ -50,7 +50,7 @@ fn has_room_for_package(state: &State, offered: &Package) -> bool
 }
 
 // A stale entry that is there already keeps its place.
-fn has_room_for_stale(state: &State, offered: &Package) -> bool
+fn has_room_for_stale(state: &State, offered: &Package<'_>) -> bool
     ensures room { let described = description offered.now in (digest : List ℕ) (image : Stored)
         → IsTrue result
         ↔ (length (with_package (offer_of described) digest image state.now).stale ≤ 256) }
@@ -62,7 +62,7 @@ fn has_room_for_stale(state: &State, offered: &Package) -> bool
     }
 }
 
-fn adds_stale_entry(state: &State, offered: &Package) -> bool
+fn adds_stale_entry(state: &State, offered: &Package<'_>) -> bool
     ensures adds { result ≡ adds_stale_entry (offer_of (description offered.now)) state.now }
 {
     let identifier = &offered.identifier;
