@@ -1,0 +1,4 @@
+pub mod Wraps
+pub mod ImageBlocks
+pub mod Plans
+pub mod Streams
