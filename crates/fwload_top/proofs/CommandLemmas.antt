@@ -1,55 +1,94 @@
 -- What every command's run has in common.
-use Rattle.std.proofs.Common.{◌≡◌, ◌≤◌, ℕ, List, length, Option, Some, subst}
-use Rattle.std.specs.Prelude.{IsSomeAnd}
-use Rattle.edge_board.specs.Board.{View, SameTest}
-use Rattle.fwload_top.specs.declared.status.Status.{Status}
-use Rattle.fwload_top.specs.declared.status.Status.TheVariants.{Usage, SourceFault, DeviceFault}
+use Rattle.std.proofs.Common.{◌≡◌, ◌≤◌, ◌∙◌, ℕ, true, false, length, Option, Some, ap, subst, sym, arith}
 use Rattle.fwload_top.specs.declared.words.Command.{Command}
 use Rattle.fwload_top.specs.declared.words.Command.TheVariants as commands
-use Rattle.fwload_top.specs.Status.{IsComplete, IsQuiet}
-use Rattle.fwload_top.specs.Words.{limit_of}
-use Rattle.fwload_top.specs.Answers.{Comes}
-use Rattle.fwload_top.specs.Ident.{IdentMay, IdentSays}
-use Rattle.fwload_top.specs.Sigcheck.{SigcheckMay, SigcheckSays}
-use Rattle.fwload_top.specs.Rehearse.{RehearseMay, RehearseSays}
-use Rattle.fwload_top.specs.Commands.{CommandRuns}
-use Rattle.fwload_top.specs.KeyNew.{EndsWith}
-use Rattle.fwload_top.proofs.AnswerLemmas.{completes}
-use Rattle.fwload_top.proofs.ReplyLemmas.{quiet_reply}
-use Rattle.fwload_top.proofs.KeyNewLemmas.{quiet_key_new, completes_key_new}
+use Rattle.fwload_top.specs.declared.status.Status.{Status}
+use Rattle.fwload_top.specs.declared.status.Status.TheVariants.{Usage}
+use Rattle.fwload_top.specs.Status.{IsFinished}
+use Rattle.fwload_top.specs.Seen.{Seen}
+use Rattle.fwload_top.specs.HasCauses.{HasCauses, Undisturbed}
+use Rattle.fwload_top.specs.Meaning.{Meaning, input_limit}
+use Rattle.fwload_top.specs.AnswersOnce.{AnswersOnce, EndsWith}
+use Rattle.fwload_top.specs.Commands.{promise}
+use Rattle.fwload_top.specs.Ident.{ident}
+use Rattle.fwload_top.specs.Ident.Outcome.{spelled, no_identifier}
+use Rattle.fwload_top.specs.Sigcheck.{sigcheck, Triple}
+use Rattle.fwload_top.specs.Sigcheck.Outcome.{no_triple, no_key, good, bad}
+use Rattle.fwload_top.specs.Rehearse.{rehearse}
+use Rattle.fwload_top.specs.Rehearse.Outcome.{rehearsed}
+use Rattle.fwload_top.specs.KeyNew.{key_new, IsRecipe}
+use Rattle.fwload_top.specs.KeyNew.Outcome.{held, bad_line, small, made}
+use Rattle.fwload_top.proofs.TripleLaws.{one_triple}
+use Rattle.fwload_top.proofs.KeyNewLemmas.{recipe_has_no_bad_line}
+use Rattle.fwload_top.proofs.AnswersOnceLemmas.{NeverRefuses, completes, of_input}
 
 -- the command that was found is the one that is asked for
 pub same_command : {a b : Command} → ◌≡◌ {A = Option Command} (Some a) (Some b) → a ≡ b
 same_command same = cc
 
-module _ (tc tm : Type 0) (status : Status) (left left' : Option (List ℕ)) (old new : View) where
-  -- a command doesn't end with Usage
-  pub not_usage : (c : Command) → CommandRuns c tc tm status left left' old new → status ≡ Usage → ⊥
-  not_usage commands.Ident runs is = subst (Comes IdentMay) is runs.known
-  not_usage commands.Sigcheck runs is = subst (Comes SigcheckMay) is runs.known
-  not_usage (commands.Rehearse at) runs is = subst (Comes RehearseMay) is runs.known
-  not_usage commands.KeyNew runs is = subst (λ (s : Status). EndsWith s tc left left' old new) is runs.ends
+-- ---- what is ready isn't refused
 
-  -- with a status that carries no answer it sends nothing
-  pub quiet_command : (c : Command) → CommandRuns c tc tm status left left' old new → IsQuiet status
-      → SameTest old.sent new.sent
-  quiet_command commands.Ident runs quiet = quiet_reply status runs.answer old new quiet runs.replies.sent
-  quiet_command commands.Sigcheck runs quiet = quiet_reply status runs.answer old new quiet runs.replies.sent
-  quiet_command (commands.Rehearse at) runs quiet = quiet_reply status runs.answer old new quiet runs.replies.sent
-  quiet_command commands.KeyNew runs quiet = quiet_key_new tc status left left' old new quiet runs.ends
+ident_completes : (r : Seen) → NeverRefuses ident r
+ident_completes r (spelled i) comes ready = tt
+ident_completes r no_identifier comes ready =
+    let is = (of_input r.source.left comes.input.0 (λ input. (length input ≤ input_limit) × ident.form r.old input)
+    comes.input.2 (ready.input (no_identifier, tt, λ told. tt))).1 in
+    comes.input.1.1 is.0 is.1
 
-  -- within the limit and without a cause of a fault it comes to its end
-  pub completes_command : (c : Command) → CommandRuns c tc tm status left left' old new
-      → {Source Device : Type 0} → (status ≡ SourceFault → Source) → (status ≡ DeviceFault → Device)
-      → IsSomeAnd left (λ input. length input ≤ limit_of c) → (Source → ⊥) → (Device → ⊥) → IsComplete status
-  completes_command commands.Ident runs s d within no-s no-d =
-      completes IdentMay IdentSays (limit_of commands.Ident) status left runs.answer runs.known runs.answers s d within
-      no-s no-d
-  completes_command commands.Sigcheck runs s d within no-s no-d =
-      completes SigcheckMay SigcheckSays
-      (limit_of commands.Sigcheck) status left runs.answer runs.known runs.answers s d within no-s no-d
-  completes_command (commands.Rehearse at) runs s d within no-s no-d =
-      completes RehearseMay (RehearseSays at)
-      (limit_of (commands.Rehearse at)) status left runs.answer runs.known runs.answers s d within no-s no-d
-  completes_command commands.KeyNew runs s d within no-s no-d =
-      completes_key_new tc status left left' old new runs.ends s d within no-s no-d
+sigcheck_completes : (r : Seen) → NeverRefuses sigcheck r
+sigcheck_completes r no_triple comes ready =
+    let is = (of_input r.source.left comes.input.0 (λ input. (length input ≤ input_limit) × sigcheck.form r.old input)
+    comes.input.2 (ready.input (good, tt, λ told. tt))).1 in
+    comes.input.1.1 is.0 is.2.valid is.2.text
+sigcheck_completes r no_key comes ready =
+    let is = (of_input r.source.left comes.input.0 (λ input. (length input ≤ input_limit) × sigcheck.form r.old input)
+    comes.input.2 (ready.input (good, tt, λ told. tt))).1 in
+    let none = comes.input.1.1 in
+    none.3 is.1 is.2.key_valid
+    (ap (λ (t : Triple). t.key) (one_triple none.0 is.0 none.1 is.2.valid (sym none.2 ∙ is.2.text)) ∙ is.2.key_text)
+sigcheck_completes r good comes ready = tt
+sigcheck_completes r bad comes ready = tt
+
+rehearse_completes : (at : ℕ) (r : Seen) → NeverRefuses (rehearse at) r
+rehearse_completes at r (rehearsed true lines) comes ready = tt
+rehearse_completes at r (rehearsed false lines) comes ready = tt
+
+key_new_completes : (r : Seen) → NeverRefuses key_new r
+key_new_completes r held comes ready = comes.cells ready.board.0 ready.board.1
+key_new_completes r (bad_line n) comes ready =
+    let is = (of_input r.source.left comes.input.0 (λ input. (length input ≤ input_limit) × IsRecipe input)
+    comes.input.2 (ready.input (bad_line n, tt, comes.cells))).1 in
+    recipe_has_no_bad_line comes.input.0 is.0 n is.1 comes.input.1.1
+key_new_completes r small comes ready = omega (arith, comes.blocks, ready.board.2)
+key_new_completes r (made key) comes ready = tt
+
+-- ---- every command
+
+no_usage : {m : Meaning} (r : Seen) → AnswersOnce m r → r.status ≡ Usage → ⊥
+no_usage {m} r run is = subst (λ (s : Status). EndsWith s m r) is run.ends
+
+-- a command doesn't end with Usage
+pub not_usage : (c : Command) (r : Seen) → (promise c).Runs r → r.status ≡ Usage → ⊥
+not_usage commands.Ident r run is = no_usage r run is
+not_usage commands.Sigcheck r run is = no_usage r run is
+not_usage (commands.Rehearse at) r run is = no_usage r run is
+not_usage commands.KeyNew r run is = no_usage r run is
+
+pub causes_of : (c : Command) (r : Seen) → (promise c).Runs r → HasCauses (promise c).limit r
+causes_of commands.Ident r run = run.causes
+causes_of commands.Sigcheck r run = run.causes
+causes_of (commands.Rehearse at) r run = run.causes
+causes_of commands.KeyNew r run = run.causes
+
+-- over what it needs it comes to its end
+pub completes_command : (c : Command) (r : Seen) → (promise c).Runs r → (promise c).Ready r → Undisturbed r
+    → IsFinished r.status
+completes_command commands.Ident r run ready calm = completes ident r (ident_completes r) run ready calm
+completes_command commands.Sigcheck r run ready calm = completes sigcheck r (sigcheck_completes r) run ready calm
+completes_command (commands.Rehearse at) r run ready calm =
+    completes (rehearse at) r (rehearse_completes at r) run ready calm
+completes_command commands.KeyNew r run ready calm = completes key_new r (key_new_completes r) run ready calm
+
+-- what the command in hand leaves is what the one that is asked for leaves
+pub as_asked : (a b : Command) (r : Seen) → a ≡ b → (promise b).Runs r → (promise a).Runs r
+as_asked a b r same run = subst (λ (c : Command). (promise c).Runs r) (sym same) run

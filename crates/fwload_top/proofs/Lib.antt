@@ -1,7 +1,6 @@
 pub mod WordsLemmas
 pub mod MomentLemmas
-pub mod ReplyLemmas
-pub mod AnswerLemmas
+pub mod AnswersOnceLemmas
 pub mod KeyNewLemmas
 pub mod CommandLemmas
 pub mod VerdictLemmas

@@ -10,11 +10,11 @@ use Rattle.package_attrs.specs.Description.{Description}
 use Rattle.config_table.specs.State.{State, empty_state}
 use Rattle.config_table.specs.Stored.{Stored}
 use Rattle.attribute_set.proofs.Readings.{one_set}
-use Rattle.package_attrs.specs.Attributes.{Describes}
+use Rattle.package_attrs.specs.Attributes.{HaveOwnTypes}
 use Rattle.package_attrs.proofs.PackageLaws.{one_description}
 use Rattle.package_rules.specs.Module.{Module}
-use Rattle.fwload_top.specs.Verdicts.{Verdict, accepted, refused, Holds, Tells, Judges, JudgesAll, package_conditions}
-use Rattle.fwload_top.specs.Verdicts.{after}
+use Rattle.fwload_top.specs.Step.{Verdict, accepted, refused, after, package_conditions, JudgesAttributes}
+use Rattle.fwload_top.specs.Verdicts.{Holds, Judges, JudgesAll}
 use Rattle.fwload_top.specs.Rehearse.{AreSets, Rehearses, rehearsal_module, rehearsal_lines, is_one_refused}
 
 -- ---- one set
@@ -23,45 +23,45 @@ one_list : (contents : List ℕ) (these those : List Attribute) → Holds conten
     → these ≡ those
 one_list contents these those h k = one_set these those h.0 k.0 (sym h.1 ∙ k.1)
 
-one_told : (contents : List ℕ) (d e : Description) → Tells contents d → Tells contents e → d ≡ e
-one_told contents d e t u =
-    one_description t.0 d e t.1.0.distinct t.2
-    (subst (λ (attrs : List Attribute). Describes attrs e) (one_list contents u.0 t.0 u.1 t.1) u.2)
-
-module _ (m : Module) (state : State Stored) (contents : List ℕ) where
-  -- a set is not both accepted and refused
-  not_both_ways : (d : Description) (n : ℕ) → Judges m state contents (accepted d) → Judges m state contents (refused n)
-      → ⊥
-  not_both_ways d n a (inl r) = r.1 a.0.0 a.0.1
-  not_both_ways d n a (inr (inl r)) = r.2 d a.0
-  not_both_ways d n a (inr (inr r)) =
+module _ (m : Module) (state : State Stored) (attrs : List Attribute) (distinct : HaveOwnTypes attrs) where
+  -- attributes are not both accepted and refused
+  not_both_ways : (d : Description) (n : ℕ) → JudgesAttributes m state attrs (accepted d)
+      → JudgesAttributes m state attrs (refused n) → ⊥
+  not_both_ways d n a (inl r) = r.1 d a.0
+  not_both_ways d n a (inr r) =
       not_both (package_conditions m state d) n
       (subst (λ (e : Description). FirstFail (package_conditions m state e) n)
-      (one_told contents r.0 d r.1 a.0) r.2) a.1
+      (one_description attrs r.0 d distinct r.1 a.0) r.2) a.1
 
-  one_refusal : (n k : ℕ) → Judges m state contents (refused n) → Judges m state contents (refused k) → n ≡ k
+  one_refusal : (n k : ℕ) → JudgesAttributes m state attrs (refused n) → JudgesAttributes m state attrs (refused k)
+      → n ≡ k
   one_refusal n k (inl r) (inl s) = r.0 ∙ sym s.0
-  one_refusal n k (inl r) (inr (inl s)) = absurd (r.1 s.1.0 s.1.1)
-  one_refusal n k (inl r) (inr (inr s)) = absurd (r.1 s.1.0 s.1.1)
-  one_refusal n k (inr (inl r)) (inl s) = absurd (s.1 r.1.0 r.1.1)
-  one_refusal n k (inr (inl r)) (inr (inl s)) = r.0 ∙ sym s.0
-  one_refusal n k (inr (inl r)) (inr (inr s)) = absurd (r.2 s.0 s.1)
-  one_refusal n k (inr (inr r)) (inl s) = absurd (s.1 r.1.0 r.1.1)
-  one_refusal n k (inr (inr r)) (inr (inl s)) = absurd (s.2 r.0 r.1)
-  one_refusal n k (inr (inr r)) (inr (inr s)) =
+  one_refusal n k (inl r) (inr s) = absurd (r.1 s.0 s.1)
+  one_refusal n k (inr r) (inl s) = absurd (s.1 r.0 r.1)
+  one_refusal n k (inr r) (inr s) =
       first_is_one (package_conditions m state s.0) n k
-      (subst (λ (e : Description). FirstFail (package_conditions m state e) n) (one_told contents r.0 s.0 r.1 s.1) r.2)
-      s.2
+      (subst (λ (e : Description). FirstFail (package_conditions m state e) n)
+      (one_description attrs r.0 s.0 distinct r.1 s.1) r.2) s.2
+
+  -- attributes have one verdict
+  one_verdict_on_attributes : (one other : Verdict) → JudgesAttributes m state attrs one
+      → JudgesAttributes m state attrs other → one ≡ other
+  one_verdict_on_attributes (accepted d) (accepted e) h k =
+      ap (λ (d : Description). accepted d) (one_description attrs d e distinct h.0 k.0)
+  one_verdict_on_attributes (accepted d) (refused n) h k = absurd (not_both_ways d n h k)
+  one_verdict_on_attributes (refused n) (accepted d) h k = absurd (not_both_ways d n k h)
+  one_verdict_on_attributes (refused n) (refused k) h j = ap (λ (n : ℕ). refused n) (one_refusal n k h j)
 
 -- a set has one verdict
 pub one_verdict : (m : Module) (state : State Stored) (contents : List ℕ) (one other : Verdict)
     → Judges m state contents one → Judges m state contents other → one ≡ other
-one_verdict m state contents (accepted d) (accepted e) h k =
-    ap (λ (d : Description). accepted d) (one_told contents d e h.0 k.0)
-one_verdict m state contents (accepted d) (refused n) h k = absurd (not_both_ways m state contents d n h k)
-one_verdict m state contents (refused n) (accepted d) h k = absurd (not_both_ways m state contents d n k h)
-one_verdict m state contents (refused n) (refused k) h j =
-    ap (λ (n : ℕ). refused n) (one_refusal m state contents n k h j)
+one_verdict m state contents one other (inl h) (inl k) = h.0 ∙ sym k.0
+one_verdict m state contents one other (inl h) (inr k) = absurd (h.1 k.0 k.1)
+one_verdict m state contents one other (inr h) (inl k) = absurd (k.1 h.0 h.1)
+one_verdict m state contents one other (inr h) (inr k) =
+    one_verdict_on_attributes m state k.0 k.1.0.distinct one other
+    (subst (λ (attrs : List Attribute). JudgesAttributes m state attrs one) (one_list contents h.0 k.0 h.1 k.1) h.2)
+    k.2
 
 one_list_of_verdicts : (m : Module) (state : State Stored) (sets : List (List ℕ)) (vs ws : List Verdict)
     → JudgesAll m state sets vs → JudgesAll m state sets ws → vs ≡ ws

@@ -13,10 +13,11 @@ use Rattle.der_core.specs.Element.{enc, IsElement, HasTagged}
 use Rattle.fwload_top.specs.declared.rehearsal.Rehearsal.{Rehearsal}
 use Rattle.package_rules.specs.Module.{Module}
 use Rattle.report_text.specs.Lines.{rehearsal_head, refused_line}
-use Rattle.fwload_top.specs.Verdicts.{Verdict, refused, Judges, JudgesAll, after, after_all, is_refused}
-use Rattle.fwload_top.specs.Rehearse.{Rehearses, RehearseSays, RehearseMay, answer_status, rehearsal_module, rest_line}
-use Rattle.fwload_top.specs.Rehearse.{verdict_line, installed_lines}
-use Rattle.fwload_top.specs.Status.{IsAnswered}
+use Rattle.fwload_top.specs.Step.{Verdict, refused, after}
+use Rattle.fwload_top.specs.Verdicts.{Judges, JudgesAll, after_all, is_refused}
+use Rattle.fwload_top.specs.Rehearse.{Rehearses, answer_status, rehearsal_module, rest_line, verdict_line}
+use Rattle.fwload_top.specs.Rehearse.{installed_lines}
+use Rattle.fwload_top.proofs.AnswersOnceLemmas.{HasLine}
 use Rattle.fwload_top.specs.Rehearsal.{Follows, JudgesOne, JudgesFront}
 
 or_assoc : (x y z : Bool) → (x || (y || z)) ≡ ((x || y) || z)
@@ -163,15 +164,6 @@ rehearsed at input rest m begun judged left (Ok done) state lines refuses is fro
     }
 
 -- the status with which a rehearsal is answered
-pub says_by : (at : ℕ) (refuses : Bool) (input answer : List ℕ) → Rehearses at refuses input answer
-    → RehearseSays at (answer_status refuses) input answer
-says_by at false input answer is = is
-says_by at true input answer is = is
-
-pub may_by : (refuses : Bool) → RehearseMay (answer_status refuses)
-may_by false = tt
-may_by true = tt
-
-pub answered_by : (refuses : Bool) → IsAnswered (answer_status refuses)
-answered_by false = tt
-answered_by true = tt
+pub has_line : (refuses : Bool) → HasLine (answer_status refuses)
+has_line false = tt
+has_line true = tt

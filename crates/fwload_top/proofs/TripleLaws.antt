@@ -1,5 +1,6 @@
 -- A key, a message and a signature are read exactly.
-use Rattle.std.proofs.Common.{ℕ, ◌<◌, ◌^◌, List, ◌++◌, length, refl, arith}
+use Rattle.std.proofs.Common.{◌≡◌, ℕ, ◌<◌, ◌^◌, List, ◌++◌, length, refl, sym, ap, ◌∙◌, arith}
+use Rattle.der_core.proofs.Numbers.{some_is}
 use Rattle.std.proofs.lemmas.List.{length-append}
 use Rattle.der_core.specs.Element.{enc}
 use Rattle.der_core.specs.Shapes.{IsFront, IsWhole, element, anything}
@@ -41,3 +42,8 @@ pub triple-whole : IsWhole triple_text IsTriple triple_of
 unfolding triple_of
 triple-whole = alone-whole (same-front (λ t h. (h.1, refl)) (λ t h. (parts_fit t h, h))
     (sized-element-front 48 (is_tag 48 refl) fields-whole))
+
+-- a text is of one triple
+pub one_triple : (t u : Triple) → IsTriple t → IsTriple u → triple_text t ≡ triple_text u → t ≡ u
+one_triple t u t_valid u_valid same =
+    some_is t u (sym (triple-whole.again t t_valid) ∙ ap triple_of same ∙ triple-whole.again u u_valid)

@@ -1,22 +1,33 @@
--- What a run leaves by its command.
-use Rattle.std.specs.Prelude.{ℕ, List, Option}
-use Rattle.edge_board.specs.Board.{View}
-use Rattle.fwload_top.specs.declared.status.Status.{Status}
+-- What each command promises of a run.
+use Rattle.std.specs.Prelude.{ℕ}
 use Rattle.fwload_top.specs.declared.words.Command.{Command}
 use Rattle.fwload_top.specs.declared.words.Command.TheVariants as commands
-use Rattle.fwload_top.specs.Ident.{IdentRuns}
-use Rattle.fwload_top.specs.Sigcheck.{SigcheckRuns}
-use Rattle.fwload_top.specs.Rehearse.{RehearseRuns}
-use Rattle.fwload_top.specs.KeyNew.{KeyNewRuns}
+use Rattle.fwload_top.specs.Status.{IsFinished}
+use Rattle.fwload_top.specs.Seen.{Seen}
+use Rattle.fwload_top.specs.HasCauses.{Undisturbed}
+use Rattle.fwload_top.specs.Meaning.{Meaning, input_limit}
+use Rattle.fwload_top.specs.AnswersOnce.{AnswersOnce, IsReady}
+use Rattle.fwload_top.specs.Ident.{ident}
+use Rattle.fwload_top.specs.Sigcheck.{sigcheck}
+use Rattle.fwload_top.specs.Rehearse.{rehearse}
+use Rattle.fwload_top.specs.KeyNew.{key_new}
 
--- what a run with this command leaves
-abbrev pub CommandRuns : Command → Type 0 → Type 0 → Status → Option (List ℕ) → Option (List ℕ) → View → View
-    → Type 0
-CommandRuns commands.Ident tells_cells tells_moments status left left' old new =
-    IdentRuns tells_moments status left left' old new
-CommandRuns commands.Sigcheck tells_cells tells_moments status left left' old new =
-    SigcheckRuns tells_moments status left left' old new
-CommandRuns (commands.Rehearse at) tells_cells tells_moments status left left' old new =
-    RehearseRuns at tells_moments status left left' old new
-CommandRuns commands.KeyNew tells_cells tells_moments status left left' old new =
-    KeyNewRuns tells_cells tells_moments status left left' old new
+-- The most octets of input that a command takes, what its run leaves, and what brings it to its end.
+pub record Promise : Type 1 where
+  pub limit : ℕ
+  pub Runs : Seen → Type 0
+  pub Ready : Seen → Type 0
+
+-- Over the board and the input that it needs, and where no call failed, the command is done, or memory was wanting.
+abbrev pub Completes : Promise → Seen → Type 0
+Completes p r = p.Ready r → Undisturbed r → IsFinished r.status
+
+-- of a command that answers once
+abbrev pub once : Meaning → Promise
+once m = record { limit = input_limit; Runs = AnswersOnce m; Ready = IsReady m }
+
+abbrev pub promise : Command → Promise
+promise commands.Ident = once ident
+promise commands.Sigcheck = once sigcheck
+promise (commands.Rehearse at) = once (rehearse at)
+promise commands.KeyNew = once key_new

@@ -4,7 +4,8 @@ use Rattle.std.specs.List.{AllByRecursion, flat_map, list_any}
 use Rattle.der_core.specs.Element.{enc, IsElement}
 use Rattle.package_rules.specs.Module.{Module}
 use Rattle.fwload_top.specs.declared.rehearsal.Rehearsal.{Rehearsal}
-use Rattle.fwload_top.specs.Verdicts.{Verdict, Judges, JudgesAll, after, after_all, is_refused}
+use Rattle.fwload_top.specs.Step.{Verdict, after}
+use Rattle.fwload_top.specs.Verdicts.{Judges, JudgesAll, after_all, is_refused}
 use Rattle.fwload_top.specs.Rehearse.{verdict_line}
 
 -- one verdict more: what it leaves installed, its line, and whether it is a refusal

@@ -1,20 +1,18 @@
--- What a run with `rehearse` answers: the lines of the verdicts on the input's attribute sets, and of what they leave
--- installed in a module that has nothing at first. The input's form and the lines are this project's own.
-use Rattle.std.specs.Prelude.{◌≡◌, ℕ, List, [], ◌∷◌, ◌++◌, Bool, true, false, ◌||◌, not, length, ◌==◌, Option}
+-- `rehearse`: the lines of the verdicts on the input's attribute sets, and of what they leave installed in a module that
+-- has nothing at first. The input's form and the lines are this project's own.
+use Rattle.std.specs.Prelude.{◌≡◌, ℕ, List, [], ◌∷◌, ◌++◌, Bool, true, false, ◌||◌, not, length, ◌==◌}
 use Rattle.std.specs.List.{AllByRecursion, flat_map, list_any}
-use Rattle.edge_board.specs.Board.{View}
 use Rattle.der_core.specs.Element.{enc, IsElement, HasTagged}
 use Rattle.config_table.specs.State.{State, empty_state}
 use Rattle.config_table.specs.Stored.{Stored}
 use Rattle.package_rules.specs.Module.{Module}
 use Rattle.report_text.specs.Lines.{state_lines, lengths, accepted_line, refused_line, rehearsal_head}
 use Rattle.fwload_top.specs.declared.status.Status.{Status}
-use Rattle.fwload_top.specs.declared.status.Status.TheVariants.{Done, SomeRefused, Usage, NotAModule, DeviceFault}
-use Rattle.fwload_top.specs.declared.status.Status.TheVariants.{SourceFault, InputTooLong, NoMemory, Refused, KeySpent}
-use Rattle.fwload_top.specs.declared.words.Command.TheVariants as commands
-use Rattle.fwload_top.specs.Words.{limit_of}
-use Rattle.fwload_top.specs.Answers.{Runs}
-use Rattle.fwload_top.specs.Verdicts.{Verdict, accepted, refused, JudgesAll, after_all, is_refused}
+use Rattle.fwload_top.specs.declared.status.Status.TheVariants.{Done, SomeRefused}
+use Rattle.fwload_top.specs.Meaning.{Meaning, Answer, says, any, any_board}
+use Rattle.fwload_top.specs.Meaning.Input.{read}
+use Rattle.fwload_top.specs.Step.{Verdict, accepted, refused}
+use Rattle.fwload_top.specs.Verdicts.{JudgesAll, after_all, is_refused}
 
 -- The module that packages are rehearsed for: its hardware type is 1.2.3 and its serial number 00 01, it is in the
 -- community 1.2.3.100, and it takes packages of type 1.
@@ -71,33 +69,20 @@ pub record Rehearses (at : ℕ) (refuses : Bool) (input answer : List ℕ) : Typ
   pub known : refuses ≡ is_one_refused verdicts rest
   pub lines : answer ≡ rehearsal_lines at verdicts rest
 
--- with Done nothing is refused, and with SomeRefused a set or a rest is
-abbrev pub RehearseSays : ℕ → Status → List ℕ → List ℕ → Type 0
-RehearseSays at Done input answer = Rehearses at false input answer
-RehearseSays at SomeRefused input answer = Rehearses at true input answer
-RehearseSays at Refused input answer = ⊥
-RehearseSays at DeviceFault input answer = ⊥
-RehearseSays at Usage input answer = ⊥
-RehearseSays at NotAModule input answer = ⊥
-RehearseSays at SourceFault input answer = ⊥
-RehearseSays at InputTooLong input answer = ⊥
-RehearseSays at NoMemory input answer = ⊥
-RehearseSays at KeySpent input answer = ⊥
+-- ---- the answers
 
--- the statuses with which it answers
-abbrev pub RehearseMay : Status → Type 0
-RehearseMay Done = Unit {0}
-RehearseMay SomeRefused = Unit {0}
-RehearseMay Refused = ⊥
-RehearseMay DeviceFault = ⊥
-RehearseMay Usage = ⊥
-RehearseMay NotAModule = ⊥
-RehearseMay SourceFault = ⊥
-RehearseMay InputTooLong = ⊥
-RehearseMay NoMemory = ⊥
-RehearseMay KeySpent = ⊥
+pub data Outcome : Type 0 where
+  -- these lines are printed, and something is refused or nothing is
+  rehearsed : Bool → List ℕ → Outcome
 
--- what a run with `rehearse` leaves
-abbrev pub RehearseRuns : ℕ → Type 0 → Status → Option (List ℕ) → Option (List ℕ) → View → View → Type 0
-RehearseRuns at tells_moments status left left' old new =
-    Runs RehearseMay (RehearseSays at) (limit_of (commands.Rehearse at)) tells_moments status left left' old new
+abbrev pub answer : ℕ → Outcome → Answer
+answer at (rehearsed refuses lines) =
+    says (answer_status refuses) lines any (read (λ input. Rehearses at refuses input lines))
+
+abbrev pub rehearse : ℕ → Meaning
+rehearse at = record {
+  Outcome = Outcome;
+  answer = answer at;
+  needs = any_board;
+  form = λ old. any;
+}

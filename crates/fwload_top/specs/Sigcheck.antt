@@ -1,18 +1,16 @@
--- What a run with `sigcheck` answers: whether a signature of a message holds under an HSS key
--- (RFC 8554, section 6). The input's form is this project's own.
-use Rattle.std.specs.Prelude.{◌≡◌, ◌<◌, ◌⊎◌, ℕ, ◌^◌, List, ◌++◌, length, Option, codes}
-use Rattle.edge_board.specs.Board.{View}
+-- `sigcheck`: whether a signature of a message holds under an HSS key (RFC 8554, section 6). The input's form is this
+-- project's own.
+use Rattle.std.specs.Prelude.{◌≡◌, ◌<◌, ℕ, ◌^◌, List, ◌++◌, length, codes}
 use Rattle.der_core.specs.Element.{enc}
 use Rattle.hss_chain.specs.declared.key.HssKey.{HssKey}
 use Rattle.hss_chain.specs.Keys.{IsHssKey, hss_key_text}
 use Rattle.hss_chain.specs.Chains.{HssHolds}
-use Rattle.fwload_top.specs.declared.status.Status.{Status}
-use Rattle.fwload_top.specs.declared.status.Status.TheVariants.{Done, SomeRefused, Usage, NotAModule, DeviceFault}
-use Rattle.fwload_top.specs.declared.status.Status.TheVariants.{SourceFault, InputTooLong, NoMemory, Refused, KeySpent}
-use Rattle.fwload_top.specs.declared.words.Command.TheVariants as commands
-use Rattle.fwload_top.specs.Words.{limit_of}
-use Rattle.fwload_top.specs.Answers.{Runs}
+use Rattle.fwload_top.specs.declared.status.Status.TheVariants.{Done, SomeRefused, Refused}
+use Rattle.fwload_top.specs.Meaning.{Meaning, Answer, says, any, any_board}
+use Rattle.fwload_top.specs.Meaning.Input.{read}
 use Rattle.fwload_top.specs.Ident.{refused_input}
+
+-- ---- the input
 
 -- What is checked: a key, a message and a signature, each as its octets.
 pub record Triple : Type 0 where
@@ -49,40 +47,32 @@ HasNoKey input =
     (t : Triple) × IsTriple t × (input ≡ triple_text t)
     × ((key : HssKey) → IsHssKey key → t.key ≡ hss_key_text key → ⊥)
 
--- with Done and SomeRefused whether the signature holds; with Refused why nothing was checked
-abbrev pub SigcheckSays : Status → List ℕ → List ℕ → Type 0
-SigcheckSays Done input answer =
-    (t : Triple) × (key : HssKey) × Keyed input t key × HssHolds key t.message t.signature
-    × (answer ≡ codes "good\n")
-SigcheckSays SomeRefused input answer =
-    (t : Triple) × (key : HssKey) × Keyed input t key × (HssHolds key t.message t.signature → ⊥)
-    × (answer ≡ codes "bad\n")
-SigcheckSays Refused input answer =
-    (IsNoTriple input × (answer ≡ refused_input))
-    ⊎ (HasNoKey input × (answer ≡ codes "refused key\n"))
-SigcheckSays DeviceFault input answer = ⊥
-SigcheckSays Usage input answer = ⊥
-SigcheckSays NotAModule input answer = ⊥
-SigcheckSays SourceFault input answer = ⊥
-SigcheckSays InputTooLong input answer = ⊥
-SigcheckSays NoMemory input answer = ⊥
-SigcheckSays KeySpent input answer = ⊥
+-- the input is a triple's text, its key reads, and the signature of the message holds under it
+abbrev pub IsGood : List ℕ → Type 0
+IsGood input = (t : Triple) × (key : HssKey) × Keyed input t key × HssHolds key t.message t.signature
 
--- the statuses with which it answers
-abbrev pub SigcheckMay : Status → Type 0
-SigcheckMay Done = Unit {0}
-SigcheckMay SomeRefused = Unit {0}
-SigcheckMay Refused = Unit {0}
-SigcheckMay DeviceFault = ⊥
-SigcheckMay Usage = ⊥
-SigcheckMay NotAModule = ⊥
-SigcheckMay SourceFault = ⊥
-SigcheckMay InputTooLong = ⊥
-SigcheckMay NoMemory = ⊥
-SigcheckMay KeySpent = ⊥
+-- the same, but the signature doesn't hold
+abbrev pub IsBad : List ℕ → Type 0
+IsBad input = (t : Triple) × (key : HssKey) × Keyed input t key × ¬ HssHolds key t.message t.signature
 
--- what a run with `sigcheck` leaves
-abbrev pub SigcheckRuns : Type 0 → Status → Option (List ℕ) → Option (List ℕ) → View → View → Type 0
-SigcheckRuns tells_moments status left left' old new =
-    Runs SigcheckMay SigcheckSays (limit_of commands.Sigcheck) tells_moments status left left'
-    old new
+-- ---- the answers
+
+pub data Outcome : Type 0 where
+  no_triple : Outcome
+  no_key : Outcome
+  good : Outcome
+  bad : Outcome
+
+abbrev pub answer : Outcome → Answer
+answer no_triple = says Refused refused_input any (read IsNoTriple)
+answer no_key = says Refused (codes "refused key\n") any (read HasNoKey)
+answer good = says Done (codes "good\n") any (read IsGood)
+answer bad = says SomeRefused (codes "bad\n") any (read IsBad)
+
+abbrev pub sigcheck : Meaning
+sigcheck = record {
+  Outcome = Outcome;
+  answer = answer;
+  needs = any_board;
+  form = λ old input. (t : Triple) × (key : HssKey) × Keyed input t key;
+}

@@ -2,7 +2,7 @@
 use Rattle.package_attrs.specs.Description.{description}
 use Rattle.fwload_top.specs.declared.step.Verdict.{Verdict as Found}
 use Rattle.fwload_top.specs.declared.step.Verdict.TheVariants as found
-use Rattle.fwload_top.specs.Verdicts.{Verdict, accepted, refused}
+use Rattle.fwload_top.specs.Step.{Verdict, accepted, refused}
 
 abbrev pub verdict_view : Found → Verdict
 verdict_view (found.Accepted p) = accepted (description p)

@@ -1,5 +1,5 @@
--- The commands: their words, their limits and what they may write; this project's own.
-use Rattle.std.specs.Prelude.{◌≡◌, ℕ, ◌^◌, List, [], ◌∷◌, map, string_bytes, codes}
+-- The commands and their words; this project's own.
+use Rattle.std.specs.Prelude.{◌≡◌, ℕ, List, [], ◌∷◌, map, string_bytes, codes}
 use Rattle.std.specs.Global.{Global}
 use Rattle.std.specs.declared.string.String.{String}
 use Rattle.der_core.specs.Moment.{IsMoment}
@@ -32,17 +32,3 @@ Spells words c = (file : List ℕ) × IsCommand c × (words ≡ file ∷ words_o
 -- the words ask for the command
 abbrev pub Asks : List (String Global) → Command → Type 0
 Asks words c = Spells (map string_bytes words) c
-
--- the most octets of input that a command takes
-abbrev pub limit_of : Command → ℕ
-limit_of commands.Ident = 2 ^ 26
-limit_of commands.Sigcheck = 2 ^ 26
-limit_of commands.KeyNew = 2 ^ 26
-limit_of (commands.Rehearse at) = 2 ^ 26
-
--- the command writes no flash
-abbrev pub WritesNoFlash : Command → Type 0
-WritesNoFlash commands.Ident = Unit {0}
-WritesNoFlash commands.Sigcheck = Unit {0}
-WritesNoFlash commands.KeyNew = ⊥
-WritesNoFlash (commands.Rehearse at) = Unit {0}

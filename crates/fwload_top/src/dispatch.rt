@@ -1,15 +1,9 @@
 // From the words to the command, and to the status.
-ghost use Rattle.std.specs.Prelude.{◌≡◌, ◌↔◌, ℕ, ◌+◌, ◌-◌, ◌<◌, ◌≤◌, ◌^◌, length, IsSomeAnd};
-ghost use Rattle.edge_board.specs.Board.{SameTest};
-ghost use Rattle.edge_board.specs.Causes.{Rose};
-ghost use Rattle.fwload_top.specs.Words.{Asks, limit_of, WritesNoFlash};
-ghost use Rattle.fwload_top.specs.Status.{IsQuiet, IsComplete};
-ghost use Rattle.fwload_top.specs.Reply.{KeepsFlash};
-ghost use Rattle.fwload_top.specs.Ident.{IdentRuns};
-ghost use Rattle.fwload_top.specs.Sigcheck.{SigcheckRuns};
-ghost use Rattle.fwload_top.specs.Rehearse.{RehearseRuns};
-ghost use Rattle.fwload_top.specs.KeyNew.{KeyNewRuns};
-ghost use Rattle.fwload_top.specs.Commands.{CommandRuns};
+ghost use Rattle.std.specs.Prelude.{◌≡◌, ◌↔◌};
+ghost use Rattle.fwload_top.specs.Words.{Asks};
+ghost use Rattle.fwload_top.specs.Seen.{seen};
+ghost use Rattle.fwload_top.specs.HasCauses.{HasCauses};
+ghost use Rattle.fwload_top.specs.Commands.{promise, Completes};
 
 use crate::ident::ident;
 use crate::key_new::key_new;
@@ -35,41 +29,22 @@ pub fn run<S: Source, B: Board>(
     ensures untouched { result ≡ Status.Usage
         → (source.new ≡ source.old) × (board.new ≡ board.old) }
 
-    // A fault comes only where its count rose, and no count falls.
-    ensures source_fault { result ≡ Status.SourceFault
-        → Rose (S.faults source.old) (S.faults source.new) }
-    ensures device_fault { result ≡ Status.DeviceFault
-        → Rose (B.view board.old).faults (B.view board.new).faults }
-    ensures source_count { S.faults source.old ≤ S.faults source.new }
-    ensures device_count { (B.view board.old).faults ≤ (B.view board.new).faults }
+    // A fault comes exactly where a call failed, InputTooLong exactly where more octets than the
+    // command's limit were taken, which is one octet more at most, and some statuses are silent.
+    ensures causes { (c : Command) → Asks words.now c
+        → HasCauses (promise c).limit (seen B.tells_cells B.tells_moments result
+        (S.supply source.old) (S.supply source.new) (B.view board.old) (B.view board.new)) }
 
-    // InputTooLong comes exactly where more octets than the command's limit were taken.
-    ensures too_long { (c : Command) → Asks words.now c → S.taken source.new < 2 ^ 64 - 1
-        → (result ≡ Status.InputTooLong)
-        ↔ (S.taken source.old + limit_of c < S.taken source.new) }
+    // What the command answers, and what a power cut at any moment leaves.
+    ensures answers { (c : Command) → Asks words.now c
+        → (promise c).Runs (seen B.tells_cells B.tells_moments result
+        (S.supply source.old) (S.supply source.new) (B.view board.old) (B.view board.new)) }
 
-    // What the board is left with: what was sent, and the flash.
-    ensures quiet { IsQuiet result → SameTest (B.view board.old).sent (B.view board.new).sent }
-    ensures flash { ((c : Command) → Asks words.now c → WritesNoFlash c)
-        → KeepsFlash B.tells_cells B.tells_moments (B.view board.old) (B.view board.new) }
-
-    // What each command answers.
-    ensures ident { Asks words.now Command.Ident → IdentRuns B.tells_moments result
-        (S.left source.old) (S.left source.new) (B.view board.old) (B.view board.new) }
-    ensures sigcheck { Asks words.now Command.Sigcheck → SigcheckRuns B.tells_moments result
-        (S.left source.old) (S.left source.new) (B.view board.old) (B.view board.new) }
-    ensures rehearse { (at : ℕ) → Asks words.now (Command.Rehearse at)
-        → RehearseRuns at B.tells_moments result
-        (S.left source.old) (S.left source.new) (B.view board.old) (B.view board.new) }
-    ensures key_new { Asks words.now Command.KeyNew
-        → KeyNewRuns B.tells_cells B.tells_moments result
-        (S.left source.old) (S.left source.new) (B.view board.old) (B.view board.new) }
-
-    // Within the limit and without a fault the command comes to its end, or memory was wanting.
+    // Over the board and the input that it needs, and where no call failed, the command is done, or
+    // memory was wanting.
     ensures complete { (c : Command) → Asks words.now c
-        → IsSomeAnd (S.left source.old) (λ input. length input ≤ limit_of c)
-        → (Rose (S.faults source.old) (S.faults source.new) → ⊥)
-        → (Rose (B.view board.old).faults (B.view board.new).faults → ⊥) → IsComplete result }
+        → Completes (promise c) (seen B.tells_cells B.tells_moments result
+        (S.supply source.old) (S.supply source.new) (B.view board.old) (B.view board.new)) }
 {
     match command_of(words) {
         None => Status::Usage,
@@ -84,18 +59,8 @@ fn obey<S: Source, B: Board>(
     source: &mut S,
     board: &mut B,
 ) -> Status
-    ensures runs { CommandRuns command B.tells_cells B.tells_moments result (S.left source.old)
-        (S.left source.new) (B.view board.old) (B.view board.new) }
-    ensures flash { WritesNoFlash command
-        → KeepsFlash B.tells_cells B.tells_moments (B.view board.old) (B.view board.new) }
-    ensures too_long { S.taken source.new < 2 ^ 64 - 1 → (result ≡ Status.InputTooLong)
-        ↔ (S.taken source.old + limit_of command < S.taken source.new) }
-    ensures source_fault { result ≡ Status.SourceFault
-        → Rose (S.faults source.old) (S.faults source.new) }
-    ensures device_fault { result ≡ Status.DeviceFault
-        → Rose (B.view board.old).faults (B.view board.new).faults }
-    ensures source_count { S.faults source.old ≤ S.faults source.new }
-    ensures device_count { (B.view board.old).faults ≤ (B.view board.new).faults }
+    ensures runs { (promise command).Runs (seen B.tells_cells B.tells_moments result
+        (S.supply source.old) (S.supply source.new) (B.view board.old) (B.view board.new)) }
 {
     match command {
         Command::Ident => ident(alloc, source, board),

@@ -1,13 +1,11 @@
 // The command `ident`.
-ghost use Rattle.std.specs.Prelude.{◌≡◌, ◌↔◌, ◌+◌, ◌-◌, ◌<◌, ◌≤◌, ◌^◌};
-ghost use Rattle.edge_board.specs.Causes.{Rose};
-ghost use Rattle.fwload_top.specs.Words.{limit_of};
-ghost use Rattle.fwload_top.specs.Reply.{KeepsFlash};
-ghost use Rattle.fwload_top.specs.Ident.{IdentRuns};
+ghost use Rattle.fwload_top.specs.Seen.{seen};
+ghost use Rattle.fwload_top.specs.AnswersOnce.{AnswersOnce};
+ghost use Rattle.fwload_top.specs.Ident.{ident};
 
+use crate::Status;
 use crate::input::read_input;
 use crate::reply::send_answer;
-use crate::{Command, Status};
 use edge_board::{Board, Source};
 use package_attrs::read_identifier;
 use report_text::put_identifier_line;
@@ -15,20 +13,10 @@ use std::alloc::Global;
 
 // Answers the identifier that the input spells by its line.
 pub(crate) fn ident<S: Source, B: Board>(alloc: Global, source: &mut S, board: &mut B) -> Status
-    ensures runs { IdentRuns B.tells_moments result (S.left source.old) (S.left source.new)
-        (B.view board.old) (B.view board.new) }
-    ensures flash { KeepsFlash B.tells_cells B.tells_moments
-        (B.view board.old) (B.view board.new) }
-    ensures too_long { S.taken source.new < 2 ^ 64 - 1 → (result ≡ Status.InputTooLong)
-        ↔ (S.taken source.old + limit_of Command.Ident < S.taken source.new) }
-    ensures source_fault { result ≡ Status.SourceFault
-        → Rose (S.faults source.old) (S.faults source.new) }
-    ensures device_fault { result ≡ Status.DeviceFault
-        → Rose (B.view board.old).faults (B.view board.new).faults }
-    ensures source_count { S.faults source.old ≤ S.faults source.new }
-    ensures device_count { (B.view board.old).faults ≤ (B.view board.new).faults }
+    ensures runs { AnswersOnce ident (seen B.tells_cells B.tells_moments result
+        (S.supply source.old) (S.supply source.new) (B.view board.old) (B.view board.new)) }
 {
-    let input = match read_input(alloc, source, Command::Ident.limit()) {
+    let input = match read_input(alloc, source) {
         Ok(input) => input,
         Err(fault) => return Status::from(fault),
     };

@@ -1,12 +1,15 @@
 // Reading the input to its end.
-ghost use Rattle.std.specs.Prelude.{◌≡◌, ◌≢◌, ◌↔◌, ◌+◌, ◌-◌, ◌<◌, ◌≤◌, ◌^◌, length, vec_len, IfOk, IfErr, IfSome, Err};
+ghost use Rattle.std.specs.Prelude.{◌≡◌, ◌+◌, ◌-◌, ◌<◌, ◌≤◌, ◌^◌, length, vec_len, IfOk, IfErr, IsErrOf};
 ghost use Rattle.edge_board.specs.Causes.{Rose};
-ghost use Rattle.fwload_top.specs.Input.{TakesPiece, Fills, ReadsAll};
+ghost use Rattle.fwload_top.specs.Input.{TakesPiece, Fills, WasRead, WasNotRead};
 ghost use Rattle.fwload_top.specs.declared.input.InputFault.TheVariants.{Failed as failed, Memory as memory};
 
 use crate::Status;
 use edge_board::{Failed, Source};
 use std::alloc::{AllocError, Global};
+
+// The most octets of input that a command takes that answers once.
+const INPUT_LIMIT: usize = 1 << 26;
 
 // The most octets that one read asks for.
 const PIECE_SIZE: usize = 65_536;
@@ -51,29 +54,20 @@ impl From<InputFault> for Status {
     }
 }
 
-/// Reads the source to its end, in pieces of at most 65,536 octets and never past the limit.
-/// Where exactly the limit has come, one octet more is asked for.
+/// Reads the source to its end, in pieces of at most 65,536 octets and never past the limit of
+/// 2^26. Where exactly the limit has come, one octet more is asked for.
 ///
 /// Beside one piece it keeps the octets in one room, which doubles where it is full: so it is never
 /// more than twice what came, and growth moves each octet once on average. While a growth moves
 /// them to another place, the old room is held too.
-pub(crate) fn read_input<S: Source>(
-    alloc: Global,
-    source: &mut S,
-    limit: usize,
-) -> Result<Vec<u8>, InputFault>
-    ensures all { IfOk result (λ v.
-        ReadsAll (S.left source.old) (S.left source.new) limit v.items) }
-    ensures too_long { S.taken source.new < 2 ^ 64 - 1
-        → (result ≡ Err InputFault.TooLong) ↔ (S.taken source.old + limit < S.taken source.new) }
-    ensures long { result ≡ Err InputFault.TooLong
-        → IfSome (S.left source.old) (λ input. limit < length input) }
-    ensures failed { result ≡ Err InputFault.Failed
-        → Rose (S.faults source.old) (S.faults source.new) }
-    ensures count { S.faults source.old ≤ S.faults source.new }
+pub(crate) fn read_input<S: Source>(alloc: Global, source: &mut S) -> Result<Vec<u8>, InputFault>
+    ensures read { IfOk result (λ input.
+        WasRead (S.supply source.old) (S.supply source.new) input.items) }
+    ensures not_read { IfErr result (λ fault.
+        WasNotRead (S.supply source.old) (S.supply source.new) fault) }
 {
     let mut piece = empty_piece(alloc, PIECE_SIZE)?;
-    let (input, ended) = fill(alloc, source, limit, &mut piece)?;
+    let (input, ended) = fill(alloc, source, INPUT_LIMIT, &mut piece)?;
     if ended {
         return Ok(input);
     }
@@ -101,15 +95,17 @@ fn fill<S: Source>(
 ) -> Result<(Vec<u8>, bool), InputFault>
     requires { 0 < length piece.old }
     ensures taken { IfOk result (λ x.
-        Fills (S.left source.old) (S.left source.new) limit x.0.items x.1) }
-    ensures counted { IfOk result (λ x. S.taken source.new < 2 ^ 64 - 1
-        → S.taken source.new ≡ S.taken source.old + vec_len x.0) }
-    ensures most { S.taken source.new < 2 ^ 64 - 1
-        → S.taken source.new ≤ S.taken source.old + limit }
-    ensures count { S.faults source.old ≤ S.faults source.new }
-    ensures failed { IfErr result (λ e.
-        (e ≡ InputFault.Failed → Rose (S.faults source.old) (S.faults source.new))
-        × (e ≢ InputFault.TooLong)) }
+        Fills (S.supply source.old).left (S.supply source.new).left limit x.0.items x.1) }
+    ensures counted { IfOk result (λ x. (S.supply source.new).taken < 2 ^ 64 - 1
+        → (S.supply source.new).taken ≡ (S.supply source.old).taken + vec_len x.0) }
+    ensures most { (S.supply source.new).taken < 2 ^ 64 - 1
+        → (S.supply source.new).taken ≤ (S.supply source.old).taken + limit }
+    ensures count { (S.supply source.old).faults ≤ (S.supply source.new).faults }
+    ensures calm { ¬ IsErrOf result InputFault.Failed
+        → (S.supply source.new).faults ≡ (S.supply source.old).faults }
+    ensures failed { IsErrOf result InputFault.Failed
+        → Rose (S.supply source.old).faults (S.supply source.new).faults }
+    ensures not_long { ¬ IsErrOf result InputFault.TooLong }
 {
     let mut input = Vec::new(alloc);
     while input.len() < limit {
@@ -128,16 +124,18 @@ fn take_piece<S: Source>(
     piece: &mut [u8],
     input: &mut Vec<u8>,
 ) -> Result<usize, InputFault>
-    ensures taken { IfOk result (λ n. TakesPiece (S.left source.old) (S.left source.new)
+    ensures taken { IfOk result (λ n. TakesPiece (S.supply source.old).left (S.supply source.new).left
         input.old.items input.new.items (length piece.old) n) }
-    ensures counted { IfOk result (λ n. S.taken source.new < 2 ^ 64 - 1
-        → S.taken source.new ≡ S.taken source.old + n) }
-    ensures most { S.taken source.new < 2 ^ 64 - 1 → (S.taken source.old ≤ S.taken source.new)
-        × (S.taken source.new ≤ S.taken source.old + length piece.old) }
-    ensures count { S.faults source.old ≤ S.faults source.new }
-    ensures failed { IfErr result (λ e.
-        (e ≡ InputFault.Failed → Rose (S.faults source.old) (S.faults source.new))
-        × (e ≢ InputFault.TooLong)) }
+    ensures counted { IfOk result (λ n. (S.supply source.new).taken < 2 ^ 64 - 1
+        → (S.supply source.new).taken ≡ (S.supply source.old).taken + n) }
+    ensures most { (S.supply source.new).taken < 2 ^ 64 - 1 → ((S.supply source.old).taken ≤ (S.supply source.new).taken)
+        × ((S.supply source.new).taken ≤ (S.supply source.old).taken + length piece.old) }
+    ensures count { (S.supply source.old).faults ≤ (S.supply source.new).faults }
+    ensures calm { ¬ IsErrOf result InputFault.Failed
+        → (S.supply source.new).faults ≡ (S.supply source.old).faults }
+    ensures failed { IsErrOf result InputFault.Failed
+        → Rose (S.supply source.old).faults (S.supply source.new).faults }
+    ensures not_long { ¬ IsErrOf result InputFault.TooLong }
 {
     let count = source.read(piece)?;
     input.extend_from_slice(&piece[..count])?;

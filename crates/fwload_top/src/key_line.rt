@@ -1,7 +1,6 @@
 // The lines that `key-new` answers with.
 ghost use Rattle.std.specs.Prelude.{◌≡◌, string_bytes, IfOk};
-ghost use Rattle.fwload_top.specs.KeyNew.{made_line, outcome_line};
-ghost use Rattle.fwload_top.specs.KeyNew.Outcome.{bad_line};
+ghost use Rattle.fwload_top.specs.KeyNew.{made_line, line_refused};
 
 use lms_sign::{SignKey, key_id, key_octets, public};
 use recipe_text::BadLine;
@@ -19,7 +18,7 @@ pub(crate) fn made_line(alloc: Global, key: &SignKey) -> Result<String, AllocErr
 
 // The line of a recipe that is none.
 pub(crate) fn bad_line(alloc: Global, bad: BadLine) -> Result<String, AllocError>
-    ensures { IfOk result (λ line. string_bytes line ≡ outcome_line (bad_line bad.0)) }
+    ensures { IfOk result (λ line. string_bytes line ≡ line_refused bad.0) }
 {
     let number = bad.0;
     format!(in alloc; "refused line {number}\n")

@@ -1,17 +1,17 @@
 // The command `key-new`.
-ghost use Rattle.std.specs.Prelude.{◌≡◌, ◌≢◌, ◌↔◌, ℕ, ◌+◌, ◌-◌, ◌<◌, ◌≤◌, ◌^◌, List, Option};
-ghost use Rattle.std.specs.Io.KnownBytes.{IsAtEnd};
-ghost use Rattle.edge_board.specs.Board.{IsSettled};
-ghost use Rattle.edge_board.specs.Causes.{Rose};
+ghost use Rattle.std.specs.Prelude.{ℕ, List};
+ghost use Rattle.edge_board.specs.Supply.{Supply};
 ghost use Rattle.recipe_text.specs.KeyRecipe.{FirstBadKeyLine, KeyRecipe};
-ghost use Rattle.fwload_top.specs.Words.{limit_of};
-ghost use Rattle.fwload_top.specs.KeyNew.{InputHas, IsFree, KeyNewRuns};
+ghost use Rattle.fwload_top.specs.Input.{WasRead};
+ghost use Rattle.fwload_top.specs.Seen.{seen};
+ghost use Rattle.fwload_top.specs.AnswersOnce.{AnswersOnce};
+ghost use Rattle.fwload_top.specs.KeyNew.{key_new, IsFree};
 
+use crate::Status;
 use crate::input::read_input;
 use crate::key_line::{bad_line, made_line};
 use crate::reply::send_answer;
-use crate::{Command, Status};
-use bank_store::{FormatFault, KeyFault, format_key, open_key};
+use bank_store::{FormatFault, HolderFault, format_key, is_held};
 use edge_board::{Board, Source};
 use lms_sign::SignKey;
 use recipe_text::{BadLine, read_key_recipe};
@@ -25,40 +25,24 @@ const SMALL: &[u8] = b"refused board\n";
 
 // Makes a key board of a board that nobody holds, by the recipe that the input is.
 pub(crate) fn key_new<S: Source, B: Board>(alloc: Global, source: &mut S, board: &mut B) -> Status
-    ensures runs { KeyNewRuns B.tells_cells B.tells_moments result (S.left source.old)
-        (S.left source.new) (B.view board.old) (B.view board.new) }
-    ensures too_long { S.taken source.new < 2 ^ 64 - 1 → (result ≡ Status.InputTooLong)
-        ↔ (S.taken source.old + limit_of Command.KeyNew < S.taken source.new) }
-    ensures source_fault { result ≡ Status.SourceFault
-        → Rose (S.faults source.old) (S.faults source.new) }
-    ensures device_fault { result ≡ Status.DeviceFault
-        → Rose (B.view board.old).faults (B.view board.new).faults }
-    ensures source_count { S.faults source.old ≤ S.faults source.new }
-    ensures device_count { (B.view board.old).faults ≤ (B.view board.new).faults }
+    ensures runs { AnswersOnce key_new (seen B.tells_cells B.tells_moments result
+        (S.supply source.old) (S.supply source.new) (B.view board.old) (B.view board.new)) }
 {
-    match open_key(board) {
-        Ok(_) => send_answer(board, HELD, Status::Refused),
-        Err(KeyFault::NotAKey) => new_key(alloc, source, board),
-        Err(KeyFault::Fault) => Status::DeviceFault,
+    match is_held(alloc, board) {
+        Ok(true) => send_answer(board, HELD, Status::Refused),
+        Ok(false) => new_key(alloc, source, board),
+        Err(HolderFault::Fault) => Status::DeviceFault,
+        Err(HolderFault::Memory) => Status::NoMemory,
     }
 }
 
 // The same for a board that nobody holds.
 fn new_key<S: Source, B: Board>(alloc: Global, source: &mut S, board: &mut B) -> Status
-    requires free { IsFree B.tells_cells (B.view board.old) }
-    requires settled { B.tells_cells → IsSettled (B.view board.old) }
-    ensures runs { KeyNewRuns B.tells_cells B.tells_moments result (S.left source.old)
-        (S.left source.new) (B.view board.old) (B.view board.new) }
-    ensures too_long { S.taken source.new < 2 ^ 64 - 1 → (result ≡ Status.InputTooLong)
-        ↔ (S.taken source.old + limit_of Command.KeyNew < S.taken source.new) }
-    ensures source_fault { result ≡ Status.SourceFault
-        → Rose (S.faults source.old) (S.faults source.new) }
-    ensures device_fault { result ≡ Status.DeviceFault
-        → Rose (B.view board.old).faults (B.view board.new).faults }
-    ensures source_count { S.faults source.old ≤ S.faults source.new }
-    ensures device_count { (B.view board.old).faults ≤ (B.view board.new).faults }
+    requires free { B.tells_cells → IsFree (B.view board.old).cells }
+    ensures runs { AnswersOnce key_new (seen B.tells_cells B.tells_moments result
+        (S.supply source.old) (S.supply source.new) (B.view board.old) (B.view board.new)) }
 {
-    let input = match read_input(alloc, source, Command::KeyNew.limit()) {
+    let input = match read_input(alloc, source) {
         Ok(input) => input,
         Err(fault) => return Status::from(fault),
     };
@@ -70,17 +54,10 @@ fn new_key<S: Source, B: Board>(alloc: Global, source: &mut S, board: &mut B) ->
 
 // Says which line of the recipe is bad.
 fn refuse_line<B: Board>(alloc: Global, board: &mut B, bad: BadLine) -> Status
-    requires free { IsFree B.tells_cells (B.view board.old) }
-    requires settled { B.tells_cells → IsSettled (B.view board.old) }
-    ensures runs { (left left' : Option (List ℕ)) → IsAtEnd left'
-        → InputHas (λ input. FirstBadKeyLine input bad.0) left
-        → KeyNewRuns B.tells_cells B.tells_moments result left left'
-        (B.view board.old) (B.view board.new) }
-    ensures no_source_fault { result ≢ Status.SourceFault }
-    ensures not_too_long { result ≢ Status.InputTooLong }
-    ensures device_fault { result ≡ Status.DeviceFault
-        → Rose (B.view board.old).faults (B.view board.new).faults }
-    ensures device_count { (B.view board.old).faults ≤ (B.view board.new).faults }
+    requires free { B.tells_cells → IsFree (B.view board.old).cells }
+    ensures runs { (source source' : Supply) (input : List ℕ) → WasRead source source' input
+        → FirstBadKeyLine input bad.0 → AnswersOnce key_new (seen B.tells_cells B.tells_moments
+        result source source' (B.view board.old) (B.view board.new)) }
 {
     match bad_line(alloc, bad) {
         Ok(line) => send_answer(board, line.as_bytes(), Status::Refused),
@@ -90,17 +67,10 @@ fn refuse_line<B: Board>(alloc: Global, board: &mut B, bad: BadLine) -> Status
 
 // Makes the board this key's. The line is made before anything is written.
 fn make_key<B: Board>(alloc: Global, board: &mut B, key: &SignKey) -> Status
-    requires free { IsFree B.tells_cells (B.view board.old) }
-    requires settled { B.tells_cells → IsSettled (B.view board.old) }
-    ensures runs { (left left' : Option (List ℕ)) → IsAtEnd left'
-        → InputHas (λ input. KeyRecipe input key.now) left
-        → KeyNewRuns B.tells_cells B.tells_moments result left left'
-        (B.view board.old) (B.view board.new) }
-    ensures no_source_fault { result ≢ Status.SourceFault }
-    ensures not_too_long { result ≢ Status.InputTooLong }
-    ensures device_fault { result ≡ Status.DeviceFault
-        → Rose (B.view board.old).faults (B.view board.new).faults }
-    ensures device_count { (B.view board.old).faults ≤ (B.view board.new).faults }
+    requires free { B.tells_cells → IsFree (B.view board.old).cells }
+    ensures runs { (source source' : Supply) (input : List ℕ) → WasRead source source' input
+        → KeyRecipe input key.now → AnswersOnce key_new (seen B.tells_cells B.tells_moments
+        result source source' (B.view board.old) (B.view board.new)) }
 {
     let Ok(line) = made_line(alloc, key) else {
         return Status::NoMemory;

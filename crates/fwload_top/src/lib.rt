@@ -1,46 +1,48 @@
 //! The firmware loader's commands, over a source of octets and a board.
 //!
-//! `run` is the call that the program makes. What is proved of it, for every source and board:
+//! `run` is the call that the program makes. Five clauses say what is proved of it, for every
+//! source and board:
 //!
 //! - Usage comes exactly where the words are no command (`usage`), and then the source and the
 //!   board are as they were (`untouched`).
-//! - A fault is answered only where the count of that object rose, and no count falls
-//!   (`source_fault`, `device_fault`, `source_count`, `device_count`).
-//! - InputTooLong is answered exactly where more octets than the command's limit were taken
-//!   (`too_long`).
-//! - With a status that carries no answer nothing is sent (`quiet`).
-//! - A command that writes no flash leaves it as it was, and at every moment of the run a power
-//!   cut leaves what one before it would have left (`flash`).
-//! - What each command answers is a record of its own: `ident` prints the identifier whose text
-//!   the whole input is, and refuses any other input (`ident`; RFC 4108, section 2.2.3); `sigcheck`
-//!   says whether a signature of a message holds under a key (`sigcheck`; RFC 8554, section 6);
-//!   `rehearse` prints the verdict on each attribute set of the input, over what the accepted ones
-//!   before it have installed, and then what is installed (`rehearse`; RFC 4108, section 2.2).
-//! - `key-new` makes a key board of a board that nobody holds (`key_new`). Its record `KeyNewRuns`
-//!   says what each status tells (`ends`): the line of the key and that the board recovers to it,
-//!   or why it is refused and that the cells are as they were; that the source isn't read where the
-//!   board is held already, which stays (`held`); that blocks from 18 on stay (`others`); and what
-//!   a power cut at any moment leaves (`moments`): from the first octet of a line on what that line
-//!   says, and before it a board that nobody holds, or that is as it was.
-//! - An input within the limit and no fault bring the command to its end, unless memory is wanting
-//!   (`complete`).
-//! - A set has one verdict at most over a state, and an input one answer of `rehearse`: that is the
-//!   law `one_rehearsal`.
+//! - For every command (`causes`, whose record is `HasCauses`): a fault is answered exactly where a
+//!   call on that object failed, so no failed call is passed over; InputTooLong exactly where more
+//!   octets than the command's limit were taken, and then it is one more; and with NotAModule and
+//!   KeySpent nothing is sent.
+//! - What a run comes to (`answers`): a command that answers once, at its end, has a meaning, which
+//!   says row by row how it ends, what it sends, over which board and input it comes to that, and
+//!   what it makes of the flash. The run sent exactly that line, or a front of it where the board
+//!   failed; a power cut at any moment leaves what that row allows, from the first octet of the
+//!   line on what the line says; where no row over the board reads the input, the source stays as
+//!   it was; and a command that writes no flash leaves it, however it ends (`AnswersOnce`).
+//! - Where the board and the input are as the command needs and no call fails, the command is done,
+//!   or memory is wanting (`complete`): a refusal, a fault or too long an input isn't answered.
+//!
+//! The meanings, each a table in a file of specs/:
+//!
+//! - `ident` prints the identifier whose text the whole input is, and refuses any other input (RFC
+//!   4108, section 2.2.3).
+//! - `sigcheck` says whether a signature of a message holds under a key (RFC 8554, section 6).
+//! - `rehearse` prints the verdict on each attribute set of the input, over what the accepted ones
+//!   before it have installed, and then what is installed (RFC 4108, section 2.2). A set has one
+//!   verdict at most over a state, and an input one answer: that is the law `one_rehearsal`.
+//! - `key-new` makes a key board of a board that nobody holds. The others write no flash: that is
+//!   the law `no_flash_is_written`.
 //!
 //! Below it stand `edge_board` (the source and the board), `attribute_set` and `package_attrs`
 //! (attributes, identifiers and packages), `config_table` and `package_rules` (the tables and the
 //! rules over them), `report_text` (lines), `hss_chain` (signatures), `lms_sign` (signing keys),
 //! `recipe_text` (recipes) and `bank_store` (who holds a board, and formats). The program `fwload`
-//! hands it the words, standard input and the flash.
+//! hands it the words, standard input and the flash; the crate `run_rows` has its tests.
 //!
-//! What was read is known only of a source that tells what it has left, and the moments of a run
-//! only of a board that tells them. No clause says when memory is wanting, nor how long a run
-//! takes. A rehearsal asks neither signatures nor the type of the content, and its packages have
-//! no image.
+//! What was read is known only of a source that tells what it has left, and the cells and moments
+//! of a run only of a board that tells them. Images are known where nothing was pending at the
+//! start. No clause says when memory is wanting, nor how long a run takes. A rehearsal asks neither
+//! signatures nor the type of the content, and its packages have no image.
 //!
-//! A further command is a variant of `Command`, its words in `words_of`, its limit, whether it
-//! writes flash, a record of what it answers beside `IdentRuns`, its case in `CommandRuns`, and its
-//! clause on `run`.
+//! A further command that answers once is a variant of `Command`, its words in `words_of`, its
+//! meaning, and its line in `promise`. One that answers as it goes has a promise of its own there,
+//! with its limit and its records.
 #![tactic(auto)]
 
 mod dispatch;
@@ -49,25 +51,17 @@ mod identity;
 mod input;
 mod key_line;
 mod key_new;
-#[cfg(test)]
-mod key_tests;
 mod laws;
 mod rehearsal;
-#[cfg(test)]
-mod rehearsal_tests;
 mod rehearse;
 mod reply;
 mod sigcheck;
 mod status;
 mod step;
-#[cfg(test)]
-mod tests;
 mod triple;
-#[cfg(test)]
-mod vectors;
 mod words;
 
 pub use dispatch::run;
-pub use laws::one_rehearsal;
+pub use laws::{no_flash_is_written, one_rehearsal};
 pub use status::Status;
 pub use words::Command;

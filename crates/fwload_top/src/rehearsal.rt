@@ -3,7 +3,7 @@ ghost use Rattle.std.specs.Prelude.{◌≡◌, ◌++◌, ◌||◌, [], false, If
 ghost use Rattle.der_core.specs.Element.{HasTagged};
 ghost use Rattle.package_attrs.specs.Description.{description};
 ghost use Rattle.config_table.specs.State.{empty_state};
-ghost use Rattle.fwload_top.specs.Verdicts.{accepted, refused};
+ghost use Rattle.fwload_top.specs.Step.{accepted, refused};
 ghost use Rattle.report_text.specs.Lines.{refused_line, rehearsal_head};
 ghost use Rattle.fwload_top.specs.Rehearse.{Rehearses, answer_status, installed_lines};
 ghost use Rattle.fwload_top.specs.Rehearsal.{Follows, JudgesOne, JudgesFront};

@@ -1,13 +1,16 @@
 // The step of a rehearsal: the verdict on one attribute set, and what it leaves installed.
-ghost use Rattle.std.specs.Prelude.{◌≡◌, ◌++◌, IfOk};
+ghost use Rattle.std.specs.Prelude.{◌≡◌, map, IfOk};
+ghost use Rattle.der_core.specs.AttributeView.{attribute_view};
 ghost use Rattle.der_core.specs.Condition.{IsCondition};
+ghost use Rattle.package_attrs.specs.Attributes.{HaveOwnTypes};
 ghost use Rattle.package_attrs.specs.Description.{description};
-ghost use Rattle.fwload_top.specs.Verdicts.{Judges, after, accepted};
+ghost use Rattle.fwload_top.specs.Step.{JudgesAttributes, after, accepted};
+ghost use Rattle.fwload_top.specs.Verdicts.{Judges};
 ghost use Rattle.fwload_top.specs.VerdictView.{verdict_view};
 
 use attribute_set::read_attribute_set;
 use config_table::{BlockNumbers, State};
-use der_core::Condition;
+use der_core::{Attr, Condition};
 use package_attrs::{Package, read_package};
 use package_rules::{HardwareModule, first_overflow, first_refusal};
 use sha2::{Digest, Sha256};
@@ -42,10 +45,24 @@ pub(crate) fn judge(
 ) -> Result<Verdict, AllocError>
     ensures { IfOk result (λ v. Judges hardware.now state.now contents.now (verdict_view v)) }
 {
-    let Some(attributes) = read_attribute_set(alloc, contents)? else {
-        return Ok(Verdict::Refused(condition(16)));
-    };
-    let Some(package) = read_package(alloc, &attributes)? else {
+    match read_attribute_set(alloc, contents)? {
+        Some(attributes) => judge_attributes(alloc, hardware, state, &attributes),
+        None => Ok(Verdict::Refused(condition(16))),
+    }
+}
+
+// The verdict on a package's attributes.
+fn judge_attributes(
+    alloc: Global,
+    hardware: &HardwareModule<'_>,
+    state: &State,
+    attributes: &[Attr<'_>],
+) -> Result<Verdict, AllocError>
+    requires distinct { HaveOwnTypes (map attribute_view attributes.now) }
+    ensures { IfOk result (λ v. JudgesAttributes hardware.now state.now
+        (map attribute_view attributes.now) (verdict_view v)) }
+{
+    let Some(package) = read_package(alloc, attributes)? else {
         return Ok(Verdict::Refused(condition(19)));
     };
     if let Some(failing) = first_refusal(hardware, state, &package) {

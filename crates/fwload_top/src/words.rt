@@ -3,7 +3,7 @@ ghost use Rattle.std.specs.Prelude.{◌≡◌, ◌↔◌, ◌∷◌, [], Some};
 ghost use Rattle.der_core.specs.Moment.{IsMoment};
 ghost use Rattle.der_core.specs.Reads.{Reads};
 ghost use Rattle.der_core.specs.Time.{last_digits};
-ghost use Rattle.fwload_top.specs.Words.{Asks, Names, limit_of};
+ghost use Rattle.fwload_top.specs.Words.{Asks, Names};
 
 use der_core::{Moment, read_time, tags};
 
@@ -19,17 +19,6 @@ pub enum Command {
     Rehearse(Moment),
     /// Make a key board of a board that nobody holds, by the key recipe that the input is.
     KeyNew,
-}
-
-impl Command {
-    // The most octets of input that the command takes.
-    pub(crate) fn limit(self) -> usize
-        ensures { result ≡ limit_of self }
-    {
-        match self {
-            Command::Ident | Command::Sigcheck | Command::Rehearse(_) | Command::KeyNew => 1 << 26,
-        }
-    }
 }
 
 // The command that the words ask for: the flash file's name, and then the command's.

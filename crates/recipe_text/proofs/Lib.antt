@@ -1,5 +1,5 @@
 mod Cuts
 mod Entries
 mod KeyLines
-mod KeyRecipes
+pub mod KeyRecipes
 mod Texts

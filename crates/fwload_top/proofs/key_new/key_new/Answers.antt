@@ -1,52 +1,59 @@
-use Rattle.std.proofs.Common.{List, ℕ, Err, ap, inl, refl, sym, subst}
-use Rattle.edge_board.specs.Runs.{same_test}
-use Rattle.bank_gate.specs.States.{RisesAtMost}
-use Rattle.bank_store.specs.declared.fault.KeyFault.{KeyFault}
-use Rattle.bank_store.specs.declared.fault.KeyFault.TheVariants as faults
-use Rattle.bank_store.specs.Recovery.{Recovers}
-use Rattle.bank_store.specs.Recovery.Holder.{nobody}
-use Rattle.fwload_top.specs.declared.status.Status.TheVariants.{DeviceFault}
+use Rattle.std.proofs.Common.{Err, refl, sym, subst, ap}
+use Rattle.bank_store.specs.declared.fault.HolderFault.{HolderFault}
+use Rattle.bank_store.specs.declared.fault.HolderFault.TheVariants as faults
+use Rattle.fwload_top.specs.declared.status.Status.TheVariants.{Refused}
+use Rattle.fwload_top.specs.KeyNew.{key_new, IsFree}
 use Rattle.fwload_top.specs.KeyNew.Outcome.{held}
-use Rattle.fwload_top.proofs.KeyNewLemmas.{ok_no_err, none_erased, nothing_done, ready_after, runs_after, line_sent}
+use Rattle.fwload_top.proofs.KeyNewLemmas.{ok_no_err}
+use Rattle.fwload_top.proofs.AnswersOnceLemmas.{quiet_touched, wrote_unchanged, poised, supplied_none, failed_run}
+use Rattle.fwload_top.proofs.AnswersOnceLemmas.{line_run, run_after}
 use Rattle.fwload_top.proofs.key_new.key_new.Goals as goal
 
-pub new_key-requires-clause-free : goal.new_key-requires-clause-free
-new_key-requires-clause-free g c = λ told.
-    subst (λ (l : List ℕ). Recovers l nobody) (sym (c.open_key.ensures.unchanged told))
-    (c.in-Err-NotAKey.ensures.not_a_key told (ap (λ (f : KeyFault). Err f) c.in-Err-NotAKey.field-0-is))
-
-pub returns-in-Ok-clause-runs : goal.returns-in-Ok-clause-runs
-returns-in-Ok-clause-runs g c =
-    let left = g.S.Source.left c.args.source.now in
+pub new_key-requires : goal.new_key-requires
+new_key-requires g c =
     let start = g.B.Board.view c.args.board.now in
-    let mid = g.B.Board.view c.open_key.new.board in
-    let new = g.B.Board.view c.send_answer.new.board in
-    let ready = ready_after left left start mid new (g.met.B.Board.honest c.args.board.now)
-    c.open_key.ensures.touches held
-    (λ told. (c.in-Ok.field-0, c.in-Ok.ensures.key told)) tt refl
-    (λ told. c.in-Ok.ensures.settled told (ok_no_err c.in-Ok.field-0 faults.Fault))
-    (λ told h. refl) (none_erased start.erased mid.erased c.open_key.ensures.erased) in
-    line_sent left left start mid new held (g.met.B.Board.honest c.open_key.new.board) ready
-    c.send_answer.ensures.flash c.send_answer.result c.send_answer.ensures.one_of c.send_answer.ensures.replies
+    let mid = g.B.Board.view c.is_held.new.board in
+    let asked = c.in-Ok-false.ensures in
+    let quiet = quiet_touched start mid (g.met.B.Board.honest c.args.board.now) asked.touches
+    (asked.calm (ok_no_err c.in-Ok-false.field-0 faults.Fault)) in record {
+      free = λ told. subst IsFree (sym (quiet.cells told)) ((asked.nobody told).0 c.in-Ok-false.field-0-test);
+    }
 
-pub returns-in-Err-NotAKey-clause-runs : goal.returns-in-Err-NotAKey-clause-runs
-returns-in-Err-NotAKey-clause-runs g c =
-    let left = g.S.Source.left c.args.source.now in
-    let left' = g.S.Source.left c.new_key.new.source in
+pub returns-in-Ok-true : goal.returns-in-Ok-true
+returns-in-Ok-true g c =
+    let source = g.S.Source.supply c.args.source.now in
     let start = g.B.Board.view c.args.board.now in
-    let mid = g.B.Board.view c.open_key.new.board in
-    let new = g.B.Board.view c.new_key.new.board in
-    runs_after left left' start mid new (g.met.B.Board.honest c.args.board.now) c.open_key.ensures.touches
-    c.new_key.result
-    (subst (λ (n : ℕ). RisesAtMost 18 n new.erased) c.open_key.ensures.erased c.new_key.ensures.runs.erased)
-    c.new_key.ensures.runs
+    let mid = g.B.Board.view c.is_held.new.board in
+    let asked = c.in-Ok-true.ensures in
+    let quiet = quiet_touched start mid (g.met.B.Board.honest c.args.board.now) asked.touches
+    (asked.calm (ok_no_err c.in-Ok-true.field-0 faults.Fault)) in record {
+      runs = line_run key_new source source start mid (g.B.Board.view c.send_answer.new.board) held
+          (poised key_new source source start mid held quiet (λ cells. refl)
+          (record { cells = λ told. (asked.held told).0 c.in-Ok-true.field-0-test; blocks = tt; input = tt })
+          (λ is. absurd is)) (supplied_none source start) (g.met.B.Board.honest c.is_held.new.board) Refused
+          c.send_answer.result c.send_answer.ensures tt refl;
+    }
 
-pub returns-in-Err-Fault-clause-runs : goal.returns-in-Err-Fault-clause-runs
-returns-in-Err-Fault-clause-runs g c =
-    let left = g.S.Source.left c.args.source.now in
+pub returns-in-Ok-false : goal.returns-in-Ok-false
+returns-in-Ok-false g c =
     let start = g.B.Board.view c.args.board.now in
-    let mid = g.B.Board.view c.open_key.new.board in
-    runs_after left left start mid mid (g.met.B.Board.honest c.args.board.now) c.open_key.ensures.touches DeviceFault
-    (none_erased start.erased mid.erased c.open_key.ensures.erased)
-    (nothing_done DeviceFault left left mid (g.met.B.Board.honest c.open_key.new.board) (inl (same_test mid.sent))
-    (λ told h. refl))
+    let mid = g.B.Board.view c.is_held.new.board in
+    let asked = c.in-Ok-false.ensures in
+    let honest = g.met.B.Board.honest c.args.board.now in
+    let quiet = quiet_touched start mid honest asked.touches
+    (asked.calm (ok_no_err c.in-Ok-false.field-0 faults.Fault)) in record {
+      runs = run_after key_new (g.S.Source.supply c.args.source.now) (g.S.Source.supply c.new_key.new.source) start mid
+          (g.B.Board.view c.new_key.new.board) quiet honest c.new_key.result c.new_key.ensures.runs;
+    }
+
+pub returns-in-Err-Fault : goal.returns-in-Err-Fault
+returns-in-Err-Fault g c =
+    let source = g.S.Source.supply c.args.source.now in
+    let start = g.B.Board.view c.args.board.now in
+    let mid = g.B.Board.view c.is_held.new.board in
+    let asked = c.in-Err-Fault.ensures in record {
+      runs = failed_run key_new source source start mid
+          (wrote_unchanged key_new source.left start mid (g.met.B.Board.honest c.args.board.now) asked.touches
+          asked.later) (supplied_none source start)
+          (asked.fault (ap (λ (f : HolderFault). Err f) c.in-Err-Fault.field-0-is));
+    }

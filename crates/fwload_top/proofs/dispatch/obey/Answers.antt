@@ -1,0 +1,19 @@
+use Rattle.fwload_top.specs.declared.words.Command.TheVariants as commands
+use Rattle.fwload_top.proofs.CommandLemmas.{as_asked}
+use Rattle.fwload_top.proofs.dispatch.obey.Goals as goal
+
+pub returns-in-Ident : goal.returns-in-Ident
+returns-in-Ident g c = record { runs = as_asked c.args.command commands.Ident _ c.in-Ident.is c.ident.ensures.runs }
+
+pub returns-in-Sigcheck : goal.returns-in-Sigcheck
+returns-in-Sigcheck g c = record {
+  runs = as_asked c.args.command commands.Sigcheck _ c.in-Sigcheck.is c.sigcheck.ensures.runs;
+}
+
+pub returns-in-Rehearse : goal.returns-in-Rehearse
+returns-in-Rehearse g c = record {
+  runs = as_asked c.args.command (commands.Rehearse c.in-Rehearse.at) _ c.in-Rehearse.is c.rehearse.ensures.runs;
+}
+
+pub returns-in-KeyNew : goal.returns-in-KeyNew
+returns-in-KeyNew g c = record { runs = as_asked c.args.command commands.KeyNew _ c.in-KeyNew.is c.key_new.ensures.runs }
