@@ -69,19 +69,19 @@ pub fn format_key<B: Board>(alloc: Global, board: &mut B, key: &SignKey) -> Resu
     if board.blocks() < KEY_BOARD_BLOCKS {
         return Err(FormatFault::TooSmall);
     }
-    let record = key_record(alloc, *key)?;
+    let record = key_record(alloc, key)?;
     let sealed = write_body(board, &record)?;
     open_gate(board, sealed)?;
     Ok(())
 }
 
 // The octets of a key's record.
-fn key_record(alloc: Global, key: SignKey) -> Result<Vec<u8>, AllocError>
-    ensures text { IfOk result (λ octets. octets.items ≡ key_record_text key) }
-    ensures valid { OnOk result (IsSignKey key) }
+fn key_record(alloc: Global, key: &SignKey) -> Result<Vec<u8>, AllocError>
+    ensures text { IfOk result (λ octets. octets.items ≡ key_record_text key.now) }
+    ensures valid { OnOk result (IsSignKey key.now) }
 {
     let mut record = Vec::new(alloc);
-    put_key_record(alloc, &mut record, &key)?;
+    put_key_record(alloc, &mut record, key)?;
     Ok(record)
 }
 

@@ -101,7 +101,7 @@ impl Rehearsal {
     }
 
     // A package is accepted.
-    fn accept(self, alloc: Global, offered: &Package) -> Result<Rehearsal, AllocError>
+    fn accept(self, alloc: Global, offered: &Package<'_>) -> Result<Rehearsal, AllocError>
         ensures { IfOk result (Follows self (accepted (description offered.now))) }
     {
         let Rehearsal {

@@ -18,9 +18,9 @@ use std::alloc::{AllocError, Global};
 
 // What is said of a set.
 #[derive(Drop)]
-pub(crate) enum Verdict {
+pub(crate) enum Verdict<'a> {
     // The package that its attributes are those of enters.
-    Accepted(Package),
+    Accepted(Package<'a>),
     // The least condition that fails.
     Refused(Condition),
 }
@@ -37,45 +37,44 @@ pub(crate) fn condition(number: u8) -> Condition
 }
 
 // The verdict on a set, by its contents.
-pub(crate) fn judge(
+pub(crate) fn judge<'a>(
     alloc: Global,
     hardware: &HardwareModule<'_>,
     state: &State,
-    contents: &[u8],
-) -> Result<Verdict, AllocError>
+    contents: &'a [u8],
+) -> Result<Verdict<'a>, AllocError>
     ensures { IfOk result (λ v. Judges hardware.now state.now contents.now (verdict_view v)) }
 {
     match read_attribute_set(alloc, contents)? {
-        Some(attributes) => judge_attributes(alloc, hardware, state, &attributes),
+        Some(attributes) => Ok(judge_attributes(hardware, state, &attributes)),
         None => Ok(Verdict::Refused(condition(16))),
     }
 }
 
 // The verdict on a package's attributes.
-fn judge_attributes(
-    alloc: Global,
+fn judge_attributes<'a>(
     hardware: &HardwareModule<'_>,
     state: &State,
-    attributes: &[Attr<'_>],
-) -> Result<Verdict, AllocError>
+    attributes: &[Attr<'a>],
+) -> Verdict<'a>
     requires distinct { HaveOwnTypes (map attribute_view attributes.now) }
-    ensures { IfOk result (λ v. JudgesAttributes hardware.now state.now
-        (map attribute_view attributes.now) (verdict_view v)) }
+    ensures { JudgesAttributes hardware.now state.now
+        (map attribute_view attributes.now) (verdict_view result) }
 {
-    let Some(package) = read_package(alloc, attributes)? else {
-        return Ok(Verdict::Refused(condition(19)));
+    let Some(package) = read_package(attributes) else {
+        return Verdict::Refused(condition(19));
     };
     if let Some(failing) = first_refusal(hardware, state, &package) {
-        return Ok(Verdict::Refused(failing));
+        return Verdict::Refused(failing);
     }
     match first_overflow(state, &package) {
-        Some(failing) => Ok(Verdict::Refused(failing)),
-        None => Ok(Verdict::Accepted(package)),
+        Some(failing) => Verdict::Refused(failing),
+        None => Verdict::Accepted(package),
     }
 }
 
 // The state with an accepted package, whose image is no octets.
-pub(crate) fn enter(alloc: Global, state: State, offered: &Package) -> Result<State, AllocError>
+pub(crate) fn enter(alloc: Global, state: State, offered: &Package<'_>) -> Result<State, AllocError>
     ensures { IfOk result (λ new. new ≡ after state (accepted (description offered.now))) }
 {
     let digest = Sha256::new().finalize();

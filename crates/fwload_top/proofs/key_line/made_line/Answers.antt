@@ -11,6 +11,6 @@ returns c =
     let is = c.public-public_key.ensures.value in
     line_of_parts c.format.result (string_bytes c.in_ok-octets.octets) (string_bytes c.in_ok-id.id)
     (encode_lower (hss_key_text (public_key c.args.key.now))) (encode_lower (key_id (public_key c.args.key.now)))
-    (c.in_ok-octets.ensures ∙ ap encode_lower (c.key_octets.ensures ∙ ap hss_key_text is))
-    (c.in_ok-id.ensures ∙ ap encode_lower (c.key_id.ensures ∙ ap key_id is))
+    (c.in_ok-octets.ensures ∙ ap encode_lower (c.key_octets.ensures.text ∙ ap hss_key_text is))
+    (c.in_ok-id.ensures ∙ ap encode_lower (c.key_id.ensures.value ∙ ap key_id is))
     c.format.ensures.ok

@@ -9,5 +9,5 @@ returns c =
     _ c.finish.result
     c.in_ok-begun.ensures.state c.in_ok-begun.ensures.lines c.in_ok-begun.ensures.refuses c.module.ensures
     (subst (λ (octets : List ℕ). JudgesFront c.module.result c.in_ok-begun.begun octets c.judge_sets.new.sets
-    c.in_ok-judged.judged) c.new-sets.ensures c.in_ok-judged.ensures.front)
-    c.in_ok-judged.ensures.ends (ap not c.at_end.ensures) c.finish.ensures.lines c.finish.ensures.refuses
+    c.in_ok-judged.judged) c.new-sets.ensures.all c.in_ok-judged.ensures.front)
+    c.in_ok-judged.ensures.ends (ap not c.at_end.ensures.end) c.finish.ensures.lines c.finish.ensures.refuses

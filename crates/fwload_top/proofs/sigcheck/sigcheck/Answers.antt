@@ -76,7 +76,7 @@ returns-then-hss_check g c =
               key_text = c.in-Some-hss_key.ensures.read;
             },
             subst (λ (m : List ℕ). HssHolds key m t.signature) (append-nil t.message)
-                (c.hss_check.ensures.0 c.if-hss_check.true),
+                (c.hss_check.ensures.holds.0 c.if-hss_check.true),
           )) (λ cells. refl) Done sent.result sent.ensures tt refl;
     }
 
@@ -103,7 +103,7 @@ returns g c =
               key_text = c.in-Some-hss_key.ensures.read;
             },
             λ holds. false≢true
-                (sym c.if-hss_check.false ∙ c.hss_check.ensures.1
+                (sym c.if-hss_check.false ∙ c.hss_check.ensures.holds.1
                 (subst (λ (m : List ℕ). HssHolds key m t.signature) (sym (append-nil t.message)) holds)),
           )) (λ cells. refl) SomeRefused sent.result sent.ensures tt refl;
     }

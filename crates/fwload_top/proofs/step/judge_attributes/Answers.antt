@@ -22,14 +22,14 @@ pub returns-in-Some-first_refusal : goal.returns-in-Some-first_refusal
 returns-in-Some-first_refusal c =
     let offered = c.in-Some.package in
     refused_by_module c.args.hardware.now c.args.state.now _ (description offered)
-    (describes_of _ c.in_ok-package.field-0 offered c.in-Some.is c.in_ok-package.ensures.described)
+    (describes_of _ c.read_package.result offered c.in-Some.is c.read_package.ensures.described)
     c.in-Some-first_refusal.failing (c.in-Some-first_refusal.ensures.first (sha256 []) no_image)
 
 pub returns-in-Some-first_overflow : goal.returns-in-Some-first_overflow
 returns-in-Some-first_overflow c =
     let offered = c.in-Some.package in
     refused_by_room c.args.hardware.now c.args.state.now _ (description offered)
-    (describes_of _ c.in_ok-package.field-0 offered c.in-Some.is c.in_ok-package.ensures.described)
+    (describes_of _ c.read_package.result offered c.in-Some.is c.read_package.ensures.described)
     c.in-Some-first_overflow.failing ((c.in_default-first_refusal.ensures.hold (sha256 []) no_image).0 refl)
     (c.in-Some-first_overflow.ensures.first (sha256 []) no_image)
 
@@ -37,6 +37,6 @@ pub returns-in-None : goal.returns-in-None
 returns-in-None c =
     let offered = c.in-Some.package in
     accepts c.args.hardware.now c.args.state.now _ (description offered)
-    (describes_of _ c.in_ok-package.field-0 offered c.in-Some.is c.in_ok-package.ensures.described)
+    (describes_of _ c.read_package.result offered c.in-Some.is c.read_package.ensures.described)
     ((c.in_default-first_refusal.ensures.hold (sha256 []) no_image).0 refl)
     ((c.in-None.ensures.hold (sha256 []) no_image).0 refl)

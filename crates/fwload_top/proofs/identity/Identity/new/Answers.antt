@@ -1,14 +1,14 @@
 use Rattle.std.proofs.Common.{ℕ, List, [], ◌∷◌, zero, suc, is_some, true, ◌≡◌, ◌<◌, refl, arith}
 use Rattle.der_core.specs.Reading.{subidentifiers_of, subidentifiers_after, subidentifier_step}
-use Rattle.der_core.proofs.Digits.{IsOctets}
+use Rattle.der_core.proofs.Digits.{AreOctets}
 use Rattle.der_core.proofs.Objects.{is_oid}
 use Rattle.fwload_top.proofs.identity.Identity.new.Goals as goal
 
 -- no octets, and one octet more in front
-no_octets : IsOctets []
+no_octets : AreOctets []
 no_octets i = omega arith
 
-octets_more : (octet : ℕ) (octets : List ℕ) → octet < 256 → IsOctets octets → IsOctets (octet ∷ octets)
+octets_more : (octet : ℕ) (octets : List ℕ) → octet < 256 → AreOctets octets → AreOctets (octet ∷ octets)
 octets_more octet octets small rest zero = small
 octets_more octet octets small rest (suc i) = rest i
 
