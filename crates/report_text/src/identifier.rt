@@ -56,51 +56,28 @@ mod tests {
     use package_attrs::read_identifier;
     use std::test::Fail;
 
+    // Whether this is the line of the identifier that the octets are, behind an octet that stays.
+    fn puts(alloc: Global, octets: &[u8], line: &[u8]) -> Result<bool, Fail> {
+        let id = read_identifier(octets).ok_or("no identifier")?;
+        let mut out = b">".to_vec(alloc)?;
+        put_identifier_line(alloc, &mut out, &id)?;
+        Ok(out.as_slice() == line)
+    }
+
     // Both sides of each border of the first two numbers (X.690, section 8.19.4), and both kinds.
     #[test]
     fn puts_a_line(rt: HostRuntime) -> Result<(), Fail> {
-        let rows = [
-            (
-                [
-                    0x30, 0x09, 0x30, 0x07, 0x06, 0x02, 0x27, 0x03, 0x02, 0x01, 0x00,
-                ]
-                .as_slice(),
-                "preferred 0.39.3 0\n",
-            ),
-            (
-                [0x30, 0x08, 0x30, 0x06, 0x06, 0x01, 0x28, 0x02, 0x01, 0x7f].as_slice(),
-                "preferred 1.0 127\n",
-            ),
-            (
-                [
-                    0x30, 0x09, 0x30, 0x07, 0x06, 0x01, 0x4f, 0x02, 0x02, 0x00, 0x80,
-                ]
-                .as_slice(),
-                "preferred 1.39 128\n",
-            ),
-            (
-                [
-                    0x30, 0x0b, 0x30, 0x06, 0x06, 0x01, 0x50, 0x02, 0x01, 0x01, 0x02, 0x01, 0x02,
-                ]
-                .as_slice(),
-                "preferred 2.0 1 stale 2\n",
-            ),
-            (
-                [0x30, 0x08, 0x04, 0x02, 0x00, 0xff, 0x04, 0x02, 0x0a, 0xb0].as_slice(),
-                "legacy 00ff stale 0ab0\n",
-            ),
-        ];
-        for (octets, line) in rows {
-            let mut out = b"> ".to_vec(rt.alloc())?;
-            let Some(id) = read_identifier(octets) else {
-                assert!(rt; false, "no identifier before {line}");
-                continue;
-            };
-            put_identifier_line(rt.alloc(), &mut out, &id)?;
-            let mut wanted = b"> ".to_vec(rt.alloc())?;
-            wanted.extend_from_slice(line.as_bytes())?;
-            assert_eq!(rt; out, wanted, "at {line}");
-        }
+        let alloc = rt.alloc();
+        let itu = b"\x30\x09\x30\x07\x06\x02\x27\x03\x02\x01\x00";
+        let iso = b"\x30\x08\x30\x06\x06\x01\x28\x02\x01\x7f";
+        let iso_39 = b"\x30\x09\x30\x07\x06\x01\x4f\x02\x02\x00\x80";
+        let joint = b"\x30\x0b\x30\x06\x06\x01\x50\x02\x01\x01\x02\x01\x02";
+        let legacy = b"\x30\x08\x04\x02\x00\xff\x04\x02\x0a\xb0";
+        assert!(rt; puts(alloc, itu, b">preferred 0.39.3 0\n")?);
+        assert!(rt; puts(alloc, iso, b">preferred 1.0 127\n")?);
+        assert!(rt; puts(alloc, iso_39, b">preferred 1.39 128\n")?);
+        assert!(rt; puts(alloc, joint, b">preferred 2.0 1 stale 2\n")?);
+        assert!(rt; puts(alloc, legacy, b">legacy 00ff stale 0ab0\n")?);
         Ok(())
     }
 }

@@ -90,7 +90,7 @@ fn refused_of(alloc: Global, condition: Condition) -> Result<String, AllocError>
 }
 
 /// Appends the line of a condition that fails: its number, and that of its code (RFC 4108,
-/// section 5). For want of memory the list stays as it was.
+/// section 4.1.3). For want of memory the list stays as it was.
 pub fn put_refused(alloc: Global, out: &mut Vec<u8>, condition: Condition) -> Result<(), AllocError>
     ensures ok { OnOk result (out.new.items ≡ out.old.items ++ refused_line condition) }
     ensures err { OnErr result (out.new.items ≡ out.old.items) }
@@ -105,28 +105,48 @@ mod tests {
     use der_core::read_oid;
     use std::test::Fail;
 
-    // The codes of RFC 4108, section 5: 1 decodeFailure, 7 badSignedAttrs, 27 wrongHardware,
-    // 28 stalePackage and 99 otherError.
-    const LINES: &[u8] = b"rehearsal at 20250101000000\nrehearsal at 00000131000009\n\
-        accepted preferred 1.2.3.1 7\n\
-        refused 1 1\nrefused 16 7\nrefused 30 27\nrefused 33 28\nrefused 41 99\n";
+    fn begins(alloc: Global, digits: u64, line: &[u8]) -> Result<bool, Fail> {
+        let at = Moment::new(digits).ok_or("a moment")?;
+        let mut out = Vec::new(alloc);
+        put_rehearsal_head(alloc, &mut out, at)?;
+        Ok(out.as_slice() == line)
+    }
+
+    // 1.2.3.1 in this version.
+    fn accepts(alloc: Global, version: u128, line: &[u8]) -> Result<bool, Fail> {
+        let id = read_oid(&[0x2a, 0x03, 0x01]).ok_or("1.2.3.1 is an identifier")?;
+        let mut out = Vec::new(alloc);
+        put_accepted(alloc, &mut out, &PackageName::Preferred { id, version })?;
+        Ok(out.as_slice() == line)
+    }
+
+    fn refuses(alloc: Global, number: u8, line: &[u8]) -> Result<bool, Fail> {
+        let condition = Condition::new(number).ok_or("1 to 41")?;
+        let mut out = Vec::new(alloc);
+        put_refused(alloc, &mut out, condition)?;
+        Ok(out.as_slice() == line)
+    }
 
     // Year 0000 has its four digits too.
     #[test]
-    fn puts_the_lines_of_a_rehearsal(rt: HostRuntime) -> Result<(), Fail> {
+    fn moments_and_names_are_put(rt: HostRuntime) -> Result<(), Fail> {
         let alloc = rt.alloc();
-        let mut out = Vec::new(alloc);
-        for digits in [20_250_101_000_000, 131_000_009] {
-            let at = Moment::new(digits).ok_or("a moment")?;
-            put_rehearsal_head(alloc, &mut out, at)?;
-        }
-        let id = read_oid(&[0x2a, 0x03, 0x01]).ok_or("1.2.3.1 is an identifier")?;
-        put_accepted(alloc, &mut out, &PackageName::Preferred { id, version: 7 })?;
-        for number in [1, 16, 30, 33, 41] {
-            let condition = Condition::new(number).ok_or("1 to 41")?;
-            put_refused(alloc, &mut out, condition)?;
-        }
-        assert!(rt; out.as_slice() == LINES, "{out:?}");
+        assert!(rt; begins(alloc, 20_250_101_000_000, b"rehearsal at 20250101000000\n")?);
+        assert!(rt; begins(alloc, 131_000_009, b"rehearsal at 00000131000009\n")?);
+        assert!(rt; accepts(alloc, 7, b"accepted preferred 1.2.3.1 7\n")?);
+        Ok(())
+    }
+
+    // The codes of RFC 4108, section 4.1.3: 1 decodeFailure, 7 badSignedAttrs, 27 wrongHardware,
+    // 28 stalePackage and 99 otherError.
+    #[test]
+    fn codes_are_put(rt: HostRuntime) -> Result<(), Fail> {
+        let alloc = rt.alloc();
+        assert!(rt; refuses(alloc, 1, b"refused 1 1\n")?);
+        assert!(rt; refuses(alloc, 16, b"refused 16 7\n")?);
+        assert!(rt; refuses(alloc, 30, b"refused 30 27\n")?);
+        assert!(rt; refuses(alloc, 33, b"refused 33 28\n")?);
+        assert!(rt; refuses(alloc, 41, b"refused 41 99\n")?);
         Ok(())
     }
 }

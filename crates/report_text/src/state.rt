@@ -7,7 +7,6 @@ ghost use Rattle.report_text.specs.Lines.{package_line, stale_line, state_lines,
 
 use crate::name::{push_hex, push_name};
 use config_table::{Installed, StaleEntry, State};
-use package_attrs::PackageName;
 use std::alloc::{AllocError, Global};
 use std::fmt::Write;
 
@@ -29,15 +28,8 @@ fn push_stale_entry(alloc: Global, text: &mut String, entry: &StaleEntry) -> Res
     ensures ok { OnOk result
         (string_bytes text.new ≡ string_bytes text.old ++ stale_line entry.now) }
 {
-    let last = match entry {
-        StaleEntry::Preferred { id, upto } => PackageName::Preferred {
-            id: *id,
-            version: *upto,
-        },
-        StaleEntry::Legacy(octets) => PackageName::Legacy(*octets),
-    };
     text.push_str("stale ")?;
-    push_name(alloc, text, &last)?;
+    push_name(alloc, text, &entry.last())?;
     text.push('\n')
 }
 
@@ -96,7 +88,7 @@ mod tests {
     use super::*;
     use config_table::BlockNumbers;
     use der_core::{Octets64, read_oid};
-    use package_attrs::{Names, Stale};
+    use package_attrs::{Names, PackageName};
     use std::test::Fail;
 
     // SHA-256 of no octets (FIPS 180-4).
@@ -141,8 +133,8 @@ mod tests {
         let mut state = State::new(alloc);
         install(alloc, &mut state, preferred, 0)?;
         install(alloc, &mut state, legacy, u32::MAX)?;
-        state.raise_stale(&PackageName::Preferred { id, version: 0 }, &Stale::Upto(9))?;
-        state.raise_stale(&PackageName::Legacy(old), &Stale::Legacy(old))?;
+        state.take_stale(StaleEntry::Preferred { id, upto: 9 })?;
+        state.take_stale(StaleEntry::Legacy(old))?;
         let mut out = b"> ".to_vec(alloc)?;
         put_state(alloc, &mut out, &state)?;
         assert!(rt; out.as_slice() == LINES, "{out:?}");
