@@ -51,6 +51,9 @@ ok_no_err x e is = cc
 pub held_is_no_fault : (f : FormatFault) → f ≡ faults.AlreadyHeld → f ≡ faults.Fault → ⊥
 held_is_no_fault f is fault = cc
 
+pub held_is_not_small : (f : FormatFault) → f ≡ faults.AlreadyHeld → f ≡ faults.TooSmall → ⊥
+held_is_not_small f is small = cc
+
 pub small_is_no_fault : (f : FormatFault) → f ≡ faults.TooSmall → f ≡ faults.Fault → ⊥
 small_is_no_fault f is fault = cc
 

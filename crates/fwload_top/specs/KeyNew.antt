@@ -49,7 +49,16 @@ line_refused n = codes "refused line " ++ (decimal n ++ codes "\n")
 -- ---- the answers
 
 abbrev pub answer : Outcome → Answer
-answer held = says Refused (codes "refused module\n") IsHeld unread
+answer held = record {
+  status = Refused;
+  line = codes "refused module\n";
+  cells = IsHeld;
+  -- nobody holds fewer
+  blocks = λ n. 18 ≤ n;
+  input = unread;
+  before = stay;
+  after = stay;
+}
 answer (bad_line n) = says Refused (line_refused n) IsFree (read (λ input. FirstBadKeyLine input n))
 answer small = record {
   status = Refused;

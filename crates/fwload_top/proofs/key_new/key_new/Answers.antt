@@ -1,4 +1,4 @@
-use Rattle.std.proofs.Common.{Err, refl, sym, subst, ap}
+use Rattle.std.proofs.Common.{arith, Err, refl, sym, subst, ap}
 use Rattle.bank_store.specs.declared.fault.HolderFault.{HolderFault}
 use Rattle.bank_store.specs.declared.fault.HolderFault.TheVariants as faults
 use Rattle.fwload_top.specs.declared.status.Status.TheVariants.{Refused}
@@ -29,7 +29,11 @@ returns-in-Ok-true g c =
     (asked.calm (ok_no_err c.in-Ok-true.field-0 faults.Fault)) in record {
       runs = line_run key_new source source start mid (g.B.Board.view c.send_answer.new.board) held
           (poised key_new source source start mid held quiet (λ cells. refl)
-          (record { cells = λ told. (asked.held told).0 c.in-Ok-true.field-0-test; blocks = tt; input = tt })
+          (record {
+            cells = λ told. (asked.held told).0 c.in-Ok-true.field-0-test;
+            blocks = omega (arith, asked.blocks c.in-Ok-true.field-0-test, asked.touches.blocks);
+            input = tt;
+          })
           (λ is. absurd is)) (supplied_none source start) (g.met.B.Board.honest c.is_held.new.board) Refused
           c.send_answer.result c.send_answer.ensures tt refl;
     }

@@ -6,7 +6,7 @@ use Rattle.fwload_top.specs.Reply.{Replies}
 use Rattle.fwload_top.specs.KeyNew.{key_new, IsRecipe}
 use Rattle.fwload_top.specs.KeyNew.Outcome.{held, small, made}
 use Rattle.fwload_top.proofs.KeyNewLemmas.{may_read, format_wrote, format_done, few_or_enough, other_err, ok_no_err}
-use Rattle.fwload_top.proofs.KeyNewLemmas.{held_is_no_fault, small_is_no_fault, memory_is_no_fault}
+use Rattle.fwload_top.proofs.KeyNewLemmas.{held_is_no_fault, held_is_not_small, small_is_no_fault, memory_is_no_fault}
 use Rattle.fwload_top.proofs.AnswersOnceLemmas.{quiet_touched, wrote_unchanged, poised, supplied, has_input}
 use Rattle.fwload_top.proofs.AnswersOnceLemmas.{read_then_no_memory, no_memory_run, failed_run, line_run}
 use Rattle.fwload_top.proofs.key_new.make_key.Goals as goal
@@ -48,6 +48,10 @@ returns-in-Err-AlreadyHeld g c =
     let sent = c.send_answer-in-Err-AlreadyHeld in
     let formats = c.in-Err-AlreadyHeld.ensures in
     let no_fault = held_is_no_fault c.in-Err-AlreadyHeld.field-0 c.in-Err-AlreadyHeld.field-0-is in
+    let not_small = held_is_not_small c.in-Err-AlreadyHeld.field-0 c.in-Err-AlreadyHeld.field-0-is in
+    let enough = ⊎_elim (λ few. absurd (⊎_elim (other_err c.in-Err-AlreadyHeld.field-0 faults.TooSmall not_small)
+    (other_err c.in-Err-AlreadyHeld.field-0 faults.Fault no_fault) (formats.small few))) (λ many. many)
+    (few_or_enough start.blocks) in
     let quiet = quiet_touched start mid (g.met.B.Board.honest c.args.board.now) (formats.refused no_fault).0
     (formats.calm (other_err c.in-Err-AlreadyHeld.field-0 faults.Fault no_fault)) in record {
       runs = λ source source' input was recipe.
@@ -56,7 +60,7 @@ returns-in-Err-AlreadyHeld g c =
           (record {
             cells = λ told. formats.already_held told
                 (ap (λ (f : FormatFault). Err f) c.in-Err-AlreadyHeld.field-0-is);
-            blocks = tt;
+            blocks = enough;
             input = tt;
           })
           (λ is. absurd is)) (supplied source source' start input was (may_read start c.requires.free))
