@@ -1,4 +1,5 @@
+pub mod ItemLemmas
 pub mod Orders
 pub mod Readings
-pub mod Types
+pub mod TypeLemmas
 pub mod Written

@@ -1,5 +1,5 @@
 -- Attributes one after the other: how one is passed, and what reading all of them in order says.
-use Rattle.std.proofs.Common.{◌≡◌, ◌↔◌, ℕ, ◌<◌, List, [], ◌∷◌, length, map, Bool, true, false, Option, Some, None, is_some, IsTrue, sym, ap, subst, ◌∙◌, refl, arith}
+use Rattle.std.proofs.Common.{◌≡◌, ◌↔◌, ℕ, ◌<◌, List, length, map, Bool, Option, Some, None, is_some, IsTrue, sym, ap, subst, ◌∙◌, refl, arith}
 use Rattle.std.specs.List.{AllByRecursion, IsDistinct}
 use Rattle.std.specs.List.Sorted.{IsSorted}
 use Rattle.std.specs.Ordering.{nat_cmp}
@@ -15,7 +15,7 @@ use Rattle.der_core.specs.Reads.{Reads}
 use Rattle.der_core.specs.Shapes.{IsWhole, listed, any_element}
 use Rattle.der_core.proofs.AttributeLaws.{any_element_falls, attr-front}
 use Rattle.der_core.proofs.Digits.{AreOctets}
-use Rattle.der_core.proofs.Listed.{listed_more, listed_none, listed_end, listed-whole}
+use Rattle.der_core.proofs.Listed.{listed-whole}
 use Rattle.der_core.proofs.Numbers.{some_bind, some_is}
 use Rattle.attribute_set.specs.AttributeSet.{set_contents, AreAttributes, IsAttributeSet}
 
@@ -52,7 +52,7 @@ no_element bytes front = rw front refl
 
 -- ---- all of them
 
-text_some : (a : Attribute) → 0 < length (attribute_text a)
+pub text_some : (a : Attribute) → 0 < length (attribute_text a)
 unfolding enc
 text_some a = omega arith
 
@@ -102,19 +102,3 @@ attributes_are bytes result octets is = by_case (listed attribute_at bytes) refl
       λ wrong. absurd (false≢true (sym is ∙ wrong)),
       λ h. absurd (none-some h.0 (sym reads ∙ ap (listed attribute_at) h.2 ∙ attributes-whole.again h.0 h.1)),
     )
-
--- one more is passed
-pub passed_on : (bytes rest : List ℕ) (a : Attribute) → attribute_at bytes ≡ Some (a, rest)
-    → is_some (listed attribute_at bytes) ≡ is_some (listed attribute_at rest)
-passed_on bytes rest a e =
-    ap is_some (listed_more attribute_at attribute_at_falls bytes (a, rest) e) ∙ same (listed attribute_at rest)
-  where
-    same : (read : Option (List Attribute)) → is_some (read >>? λ more. Some (a ∷ more)) ≡ is_some read
-    same (Some more) = refl
-    same None = refl
-
-pub stopped : (bytes : List ℕ) → 0 < length bytes → attribute_at bytes ≡ None → is_some (listed attribute_at bytes) ≡ false
-stopped bytes some e = ap is_some (listed_none attribute_at bytes some e)
-
-pub ended : (bytes : List ℕ) → bytes ≡ [] → is_some (listed attribute_at bytes) ≡ true
-ended bytes e = ap (λ (b : List ℕ). is_some (listed attribute_at b)) e ∙ ap is_some (listed_end attribute_at)

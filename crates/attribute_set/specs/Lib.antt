@@ -1,1 +1,3 @@
 pub mod AttributeSet
+pub mod Items
+pub mod Types

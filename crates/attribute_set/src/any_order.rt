@@ -4,7 +4,8 @@ ghost use Rattle.der_core.specs.AttributeReading.{attribute_at};
 ghost use Rattle.der_core.specs.Shapes.{listed};
 ghost use Rattle.attribute_set.specs.AttributeSet.{AreAttributes};
 
-use der_core::{Cursor, read_attr};
+use crate::attributes::read_next;
+use der_core::Cursor;
 
 /// Whether the octets are attributes, one after the other. They may stand in any order, and a type
 /// may stand more than once. It takes no memory.
@@ -20,10 +21,7 @@ fn read_each(octets: &[u8]) -> bool
 {
     let mut cursor = Cursor::new(octets);
     while !cursor.at_end() {
-        let Some((_, _, text)) = cursor.next() else {
-            return false;
-        };
-        let Some(_) = read_attr(text) else {
+        let Some(_) = read_next(&mut cursor) else {
             return false;
         };
     }

@@ -3,15 +3,21 @@
 //! - `read_attribute_set` answers attributes exactly where the octets are theirs, one after the
 //!   other, in ascending order of their octets and with no type twice (`spelled`). No type stands
 //!   twice in its answer (`distinct`).
+//! - `Attributes` stay in place as the octets that were read, and are seen as the list that these
+//!   spell. It is an iterator that reads the next attribute when it is asked for (`next_gives`:
+//!   `YieldsFirstBy`).
 //! - `are_attributes` says whether octets are attributes in any order, without memory
 //!   (`attributes`), which is what unsigned attributes are asked to be.
 //! - `laws` says that octets are those of one list of attributes at most, and that attributes of
 //!   distinct types, written as the contents of a SET OF by `der_write`, are such attributes.
 //!
-//! Time is n log n for n attributes, beside one look at each octet.
+//! Time is n log n for n attributes, beside a few looks at each octet. Only the question whether a
+//! type stands twice takes memory: a place of 8 octets for each attribute, which has at least 7
+//! octets. It is asked of attributes in order alone, and the memory is given back before the answer.
 //!
 //! Below it stand `der_core`, with the attributes, and `der_write`, with sets that are written.
-//! Readers of signers' parts of signed data stand above it.
+//! `package_attrs` and readers of signers' parts of signed data stand above it. `specs/Items` says
+//! what values that stay in place are, for this crate and those above.
 //!
 //! Limits: those of `der_core`, for each attribute. There may be no attribute at all, which RFC
 //! 5652 leaves out. Values are elements of any kind and are not in order. That no type stands twice
@@ -19,8 +25,11 @@
 #![tactic(auto)]
 
 mod any_order;
+mod attributes;
 pub mod laws;
 mod read;
+mod types;
 
 pub use any_order::are_attributes;
+pub use attributes::Attributes;
 pub use read::read_attribute_set;

@@ -1,6 +1,5 @@
 // The step of a rehearsal: the verdict on one attribute set, and what it leaves installed.
-ghost use Rattle.std.specs.Prelude.{◌≡◌, map, IfOk};
-ghost use Rattle.der_core.specs.AttributeView.{attribute_view};
+ghost use Rattle.std.specs.Prelude.{◌≡◌, IfOk};
 ghost use Rattle.der_core.specs.Condition.{IsCondition};
 ghost use Rattle.package_attrs.specs.Attributes.{HaveOwnTypes};
 ghost use Rattle.package_attrs.specs.Description.{description};
@@ -8,9 +7,9 @@ ghost use Rattle.fwload_top.specs.Step.{JudgesAttributes, after, accepted};
 ghost use Rattle.fwload_top.specs.Verdicts.{Judges};
 ghost use Rattle.fwload_top.specs.VerdictView.{verdict_view};
 
-use attribute_set::read_attribute_set;
+use attribute_set::{Attributes, read_attribute_set};
 use config_table::{BlockNumbers, State};
-use der_core::{Attr, Condition};
+use der_core::Condition;
 use package_attrs::{Package, read_package};
 use package_rules::{HardwareModule, first_overflow, first_refusal};
 use sha2::{Digest, Sha256};
@@ -55,11 +54,10 @@ pub(crate) fn judge<'a>(
 fn judge_attributes<'a>(
     hardware: &HardwareModule<'_>,
     state: &State,
-    attributes: &[Attr<'a>],
+    attributes: &Attributes<'a>,
 ) -> Verdict<'a>
-    requires distinct { HaveOwnTypes (map attribute_view attributes.now) }
-    ensures { JudgesAttributes hardware.now state.now
-        (map attribute_view attributes.now) (verdict_view result) }
+    requires distinct { HaveOwnTypes attributes.now }
+    ensures { JudgesAttributes hardware.now state.now attributes.now (verdict_view result) }
 {
     let Some(package) = read_package(attributes) else {
         return Verdict::Refused(condition(19));

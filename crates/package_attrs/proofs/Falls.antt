@@ -1,19 +1,16 @@
 -- Readings at the front take octets.
-use Rattle.std.proofs.Common.{◌≡◌, ℕ, ◌<◌, List, length, Some, inl, inr}
+use Rattle.std.proofs.Common.{ℕ, inl, inr}
 use Rattle.std.proofs.lemmas.Bool.{cases_Bool}
 use Rattle.der_core.specs.Reading.{oid_of, octets_of}
 use Rattle.der_core.specs.Shapes.{Front, begins_with, choice, mapped}
 use Rattle.der_core.proofs.Shapes.{element-falls}
+use Rattle.attribute_set.proofs.ItemLemmas.{Falls}
 use Rattle.package_attrs.specs.declared.community.SerialEntry.TheVariants as entries
 use Rattle.package_attrs.specs.declared.community.Community.TheVariants as communities
 use Rattle.package_attrs.specs.declared.name.PackageName.TheVariants as names
 use Rattle.package_attrs.specs.Reading.{oid_at, pair_of, name_at}
 use Rattle.package_attrs.specs.ListReading.{modules_of, community_at}
 use Rattle.package_attrs.specs.SerialReading.{nothing, block_of, serial_entry_at}
-
--- what follows is shorter
-abbrev pub Falls : {V : Type 0} → Front V → Type 0
-Falls {V} read = (bytes : List ℕ) (x : V × List ℕ) → read bytes ≡ Some x → length x.1 < length bytes
 
 choice_falls : {V : Type 0} (tag : ℕ) (this other : Front V) → Falls this → Falls other → Falls (choice tag this other)
 choice_falls tag this other first second bytes x e = elim (cases_Bool (begins_with tag bytes)) [

@@ -11,7 +11,7 @@ use Rattle.der_core.proofs.Listed.{listed_more, listed_none}
 use Rattle.der_core.proofs.Lists.{with_front, stops, ends}
 use Rattle.der_core.proofs.Numbers.{some_is}
 use Rattle.package_attrs.specs.declared.name.PackageName.{PackageName}
-use Rattle.package_attrs.specs.Items.{items_of, AreItems}
+use Rattle.attribute_set.specs.Items.{items_of, AreItems}
 use Rattle.package_attrs.specs.ListReading.{is_some_and_few, names_of}
 use Rattle.package_attrs.specs.Reading.{name_at}
 use Rattle.package_attrs.proofs.Falls.{name_falls}

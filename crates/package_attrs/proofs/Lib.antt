@@ -1,6 +1,5 @@
 pub mod IdentifierLaws
 pub mod Falls
-pub mod ItemLemmas
 pub mod FewNames
 pub mod CoverLemmas
 pub mod ListLaws

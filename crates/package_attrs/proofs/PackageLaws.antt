@@ -1,16 +1,14 @@
 -- The attributes of a type are found, and the package that attributes describe is read.
-use Rattle.std.proofs.Common.{◌≡◌, ℕ, zero, suc, ◌^◌, ◌<◌, Bool, true, false, eqb, List, [], ◌∷◌, length, map}
+use Rattle.std.proofs.Common.{◌≡◌, ℕ, zero, suc, ◌^◌, ◌<◌, true, false, eqb, List, [], ◌∷◌, length, map}
 use Rattle.std.proofs.Common.{Option, Some, None, refl, sym, subst, ◌∙◌, inl, inr, arith}
 use Rattle.std.specs.Prelude.{bytes_eq, ◌↔◌, IsTrue, IfSome, nat_eq, option_map, slice_index_or}
 use Rattle.std.specs.Cmp.Lexicographic.{pointwise, same_text, other_text}
-use Rattle.std.specs.List.{AllByRecursion, find}
+use Rattle.std.specs.List.{AllByRecursion}
 use Rattle.std.proofs.lemmas.Bool.{cases_Bool, false≢true, eqb-true, eq-eqb}
 use Rattle.std.proofs.lemmas.Map.Keys.{IsDistinct-head, IsDistinct-tail}
 use Rattle.std.proofs.lemmas.Slice.Eq.{bytes_eq-Decides}
 use Rattle.std.proofs.lemmas.Option.{none-some}
 use Rattle.der_core.specs.Attribute.{Attribute}
-use Rattle.der_core.specs.AttributeView.{attribute_view}
-use Rattle.der_core.specs.declared.attribute.Attr.{Attr}
 use Rattle.der_core.specs.Element.{enc}
 use Rattle.der_core.specs.Objects.{IsOid}
 use Rattle.der_core.specs.Reads.{Reads, Answers}
@@ -34,43 +32,19 @@ use Rattle.package_attrs.proofs.IdentifierLaws.{identifier-whole}
 use Rattle.package_attrs.proofs.ListLaws.{oid-front, targets-whole, communities-whole, info-whole}
 use Rattle.package_attrs.proofs.ReadingLemmas.{octet_string-whole}
 
--- ---- in the code's attributes
-
-abbrev is_of : List ℕ → Attr → Bool
-is_of kind a = pointwise nat_eq a.kind kind
-
-find_view : (kind : List ℕ) (attrs : List Attr)
-    → find (λ (a : Attribute). pointwise nat_eq a.kind kind) (map attribute_view attrs) ≡ option_map attribute_view
-    (find (is_of kind) attrs)
-find_view kind [] = refl
-find_view kind (a ∷ others) = elim (cases_Bool (pointwise nat_eq a.kind kind)) [
-  | inl is ↦ rw is refl
-  | inr isnt ↦ rw isnt (find_view kind others)
-]
-
-pub values_found : (kind : List ℕ) (attrs : List Attr) (a : Attr) → Some a ≡ find (is_of kind) attrs
-    → values_of kind (map attribute_view attrs) ≡ Some a.values.now
-unfolding values_of
-values_found kind attrs a is = rw (find_view kind attrs, ← is) refl
-
-pub values_missing : (kind : List ℕ) (attrs : List Attr) → None ≡ find (is_of kind) attrs
-    → values_of kind (map attribute_view attrs) ≡ None
-unfolding values_of
-values_missing kind attrs is = rw (find_view kind attrs, ← is) refl
-
 -- ---- what is found is there, and what is there is found
 
-here : (kind : List ℕ) (a : Attribute) (others : List Attribute) → pointwise nat_eq a.kind kind ≡ true
+pub here : (kind : List ℕ) (a : Attribute) (others : List Attribute) → pointwise nat_eq a.kind kind ≡ true
     → values_of kind (a ∷ others) ≡ Some a.values
 unfolding values_of
 here kind a others is = rw is refl
 
-further : (kind : List ℕ) (a : Attribute) (others : List Attribute) → pointwise nat_eq a.kind kind ≡ false
+pub further : (kind : List ℕ) (a : Attribute) (others : List Attribute) → pointwise nat_eq a.kind kind ≡ false
     → values_of kind (a ∷ others) ≡ values_of kind others
 unfolding values_of
 further kind a others isnt = rw isnt refl
 
-nowhere : (kind : List ℕ) → values_of kind [] ≡ None
+pub nowhere : (kind : List ℕ) → values_of kind [] ≡ None
 unfolding values_of
 nowhere kind = refl
 

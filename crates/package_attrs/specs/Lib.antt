@@ -1,7 +1,6 @@
 pub mod Kinds
 pub mod Identifier
 pub mod Reading
-pub mod Items
 pub mod SerialReading
 pub mod ListReading
 pub mod Description

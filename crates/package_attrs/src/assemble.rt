@@ -1,6 +1,5 @@
 // Reading a package from its signed attributes.
-ghost use Rattle.std.specs.Prelude.{◌≡◌, ◌↔◌, length, Some, map, option_map, IfSome};
-ghost use Rattle.der_core.specs.AttributeView.{attribute_view};
+ghost use Rattle.std.specs.Prelude.{◌≡◌, ◌↔◌, length, Some, option_map, IfSome};
 ghost use Rattle.der_core.specs.Element.{enc};
 ghost use Rattle.der_core.specs.Objects.{IsOid};
 ghost use Rattle.der_core.specs.Reads.{Reads, Answers};
@@ -22,7 +21,8 @@ use crate::{
     Communities, Dependencies, Identifier, Info, Package, Targets, attribute_types as types,
     read_communities, read_identifier, read_info, read_targets,
 };
-use der_core::{Attr, Cursor, Oid, Time};
+use attribute_set::Attributes;
+use der_core::{Cursor, Oid, Time};
 
 #[tactic(auto, unfolding(crate::specs::PackageReading::one_oid_of))]
 fn one_oid(values: &[u8]) -> Option<Oid>
@@ -76,35 +76,35 @@ fn read_one_time(values: &[u8]) -> Option<Time>
 }
 
 #[tactic(auto, unfolding(crate::specs::PackageReading::content_in))]
-fn content_in(attrs: &[Attr<'_>]) -> Option<Oid>
-    ensures exact { Answers (λ id. id) result (content_in (map attribute_view attrs.now)) }
-    ensures sound { IfSome result (λ id. HasContentType (map attribute_view attrs.now) id) }
+fn content_in(attrs: &Attributes<'_>) -> Option<Oid>
+    ensures exact { Answers (λ id. id) result (content_in attrs.now) }
+    ensures sound { IfSome result (λ id. HasContentType attrs.now id) }
 {
     read_one_oid(values_of(attrs, &types::CONTENT_TYPE)?)
 }
 
 #[tactic(auto, unfolding(crate::specs::PackageReading::digest_in))]
-fn digest_in(attrs: &[Attr<'_>]) -> Option<[u8; 32]>
-    ensures exact { Answers (λ digest. digest) result (digest_in (map attribute_view attrs.now)) }
-    ensures sound { IfSome result (λ digest. HasDigest (map attribute_view attrs.now) digest) }
+fn digest_in(attrs: &Attributes<'_>) -> Option<[u8; 32]>
+    ensures exact { Answers (λ digest. digest) result (digest_in attrs.now) }
+    ensures sound { IfSome result (λ digest. HasDigest attrs.now digest) }
 {
     read_digest(values_of(attrs, &types::MESSAGE_DIGEST)?)
 }
 
 #[tactic(auto, unfolding(crate::specs::PackageReading::identifier_in))]
-fn identifier_in(attrs: &[Attr<'_>]) -> Option<Identifier>
-    ensures exact { Answers view result (identifier_in (map attribute_view attrs.now)) }
-    ensures sound { IfSome result (λ i. HasIdentifier (map attribute_view attrs.now) (view i)) }
+fn identifier_in(attrs: &Attributes<'_>) -> Option<Identifier>
+    ensures exact { Answers view result (identifier_in attrs.now) }
+    ensures sound { IfSome result (λ i. HasIdentifier attrs.now (view i)) }
 {
     read_identifier(values_of(attrs, &types::FIRMWARE_PACKAGE_ID)?)
 }
 
 // The moment of signing, where it is there.
 #[tactic(auto, unfolding(crate::specs::PackageReading::time_in))]
-fn time_in(attrs: &[Attr<'_>]) -> Option<Option<Time>>
-    requires { HaveOwnTypes (map attribute_view attrs.now) }
-    ensures exact { Answers (λ time. time) result (time_in (map attribute_view attrs.now)) }
-    ensures sound { IfSome result (λ time. HasTime (map attribute_view attrs.now) time) }
+fn time_in(attrs: &Attributes<'_>) -> Option<Option<Time>>
+    requires { HaveOwnTypes attrs.now }
+    ensures exact { Answers (λ time. time) result (time_in attrs.now) }
+    ensures sound { IfSome result (λ time. HasTime attrs.now time) }
 {
     match values_of(attrs, &types::SIGNING_TIME) {
         Some(values) => Some(Some(read_one_time(values)?)),
@@ -113,18 +113,18 @@ fn time_in(attrs: &[Attr<'_>]) -> Option<Option<Time>>
 }
 
 #[tactic(auto, unfolding(crate::specs::PackageReading::targets_in))]
-fn targets_in<'a>(attrs: &[Attr<'a>]) -> Option<Targets<'a>>
-    ensures exact { Answers (λ ids. ids) result (targets_in (map attribute_view attrs.now)) }
-    ensures sound { IfSome result (λ ids. HasTargets (map attribute_view attrs.now) ids) }
+fn targets_in<'a>(attrs: &Attributes<'a>) -> Option<Targets<'a>>
+    ensures exact { Answers (λ ids. ids) result (targets_in attrs.now) }
+    ensures sound { IfSome result (λ ids. HasTargets attrs.now ids) }
 {
     read_targets(values_of(attrs, &types::TARGET_HARDWARE_IDS)?)
 }
 
 #[tactic(auto, unfolding(crate::specs::PackageReading::communities_in))]
-fn communities_in<'a>(attrs: &[Attr<'a>]) -> Option<Option<Communities<'a>>>
-    requires { HaveOwnTypes (map attribute_view attrs.now) }
-    ensures exact { Answers (λ list. list) result (communities_in (map attribute_view attrs.now)) }
-    ensures sound { IfSome result (λ list. HasCommunities (map attribute_view attrs.now) list) }
+fn communities_in<'a>(attrs: &Attributes<'a>) -> Option<Option<Communities<'a>>>
+    requires { HaveOwnTypes attrs.now }
+    ensures exact { Answers (λ list. list) result (communities_in attrs.now) }
+    ensures sound { IfSome result (λ list. HasCommunities attrs.now list) }
 {
     match values_of(attrs, &types::COMMUNITY_IDENTIFIERS) {
         Some(values) => Some(Some(read_communities(values)?)),
@@ -133,10 +133,10 @@ fn communities_in<'a>(attrs: &[Attr<'a>]) -> Option<Option<Communities<'a>>>
 }
 
 #[tactic(auto, unfolding(crate::specs::PackageReading::info_in))]
-fn info_in<'a>(attrs: &[Attr<'a>]) -> Option<Info<'a>>
-    requires { HaveOwnTypes (map attribute_view attrs.now) }
-    ensures exact { Answers (λ info. info) result (info_in (map attribute_view attrs.now)) }
-    ensures sound { IfSome result (λ info. HasInfo (map attribute_view attrs.now) info) }
+fn info_in<'a>(attrs: &Attributes<'a>) -> Option<Info<'a>>
+    requires { HaveOwnTypes attrs.now }
+    ensures exact { Answers (λ info. info) result (info_in attrs.now) }
+    ensures sound { IfSome result (λ info. HasInfo attrs.now info) }
 {
     match values_of(attrs, &types::FIRMWARE_PACKAGE_INFO) {
         Some(values) => read_info(values),
@@ -148,11 +148,11 @@ fn info_in<'a>(attrs: &[Attr<'a>]) -> Option<Info<'a>>
 }
 
 #[tactic(auto, unfolding(crate::specs::PackageReading::package_of))]
-fn read_whole<'a>(attrs: &[Attr<'a>]) -> Option<Package<'a>>
-    requires { HaveOwnTypes (map attribute_view attrs.now) }
-    ensures exact { Answers description result (package_of (map attribute_view attrs.now)) }
+fn read_whole<'a>(attrs: &Attributes<'a>) -> Option<Package<'a>>
+    requires { HaveOwnTypes attrs.now }
+    ensures exact { Answers description result (package_of attrs.now) }
     ensures sound { IfSome result
-        (λ p. Describes (map attribute_view attrs.now) (description p)) }
+        (λ p. Describes attrs.now (description p)) }
 {
     let content = content_in(attrs)?;
     let digest = digest_in(attrs)?;
@@ -171,11 +171,11 @@ fn read_whole<'a>(attrs: &[Attr<'a>]) -> Option<Package<'a>>
 /// The package that signed attributes describe, of which no type stands twice (RFC 4108, section
 /// 2.2; RFC 5652, section 11). None where an attribute that must be there isn't, or one that is
 /// read doesn't have exactly one value, of its form. Attributes of other types are passed over.
-pub fn read_package<'a>(attrs: &[Attr<'a>]) -> Option<Package<'a>>
-    requires { HaveOwnTypes (map attribute_view attrs.now) }
+pub fn read_package<'a>(attrs: &Attributes<'a>) -> Option<Package<'a>>
+    requires { HaveOwnTypes attrs.now }
     ensures described { (d : Description) → (option_map description result ≡ Some d)
-        ↔ Describes (map attribute_view attrs.now) d }
-    ensures exact { Answers description result (package_of (map attribute_view attrs.now)) }
+        ↔ Describes attrs.now d }
+    ensures exact { Answers description result (package_of attrs.now) }
 {
     read_whole(attrs)
 }

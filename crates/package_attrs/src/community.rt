@@ -26,7 +26,7 @@ pub struct SerialEntries<'a> {
 impl<'a> Model for SerialEntries<'a> {
     ghost use Rattle.std.specs.Prelude.{List};
     ghost use Rattle.package_attrs.specs.declared.community.SerialEntry.{SerialEntry};
-    ghost use Rattle.package_attrs.specs.Items.{items_of, AreItems};
+    ghost use Rattle.attribute_set.specs.Items.{items_of, AreItems};
     ghost use Rattle.package_attrs.specs.SerialReading.{serial_entry_at};
 
     ghost Value = { List SerialEntry };
@@ -83,7 +83,7 @@ pub struct Communities<'a> {
 impl<'a> Model for Communities<'a> {
     ghost use Rattle.std.specs.Prelude.{List};
     ghost use Rattle.package_attrs.specs.declared.community.Community.{Community};
-    ghost use Rattle.package_attrs.specs.Items.{items_of, AreItems};
+    ghost use Rattle.attribute_set.specs.Items.{items_of, AreItems};
     ghost use Rattle.package_attrs.specs.ListReading.{community_at};
 
     ghost Value = { List Community };

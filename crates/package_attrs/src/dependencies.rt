@@ -23,7 +23,7 @@ pub struct Dependencies<'a> {
 impl<'a> Model for Dependencies<'a> {
     ghost use Rattle.std.specs.Prelude.{◌≤◌, List, length};
     ghost use Rattle.package_attrs.specs.declared.name.PackageName.{PackageName};
-    ghost use Rattle.package_attrs.specs.Items.{items_of, AreItems};
+    ghost use Rattle.attribute_set.specs.Items.{items_of, AreItems};
     ghost use Rattle.package_attrs.specs.Reading.{name_at};
 
     ghost Value = { List PackageName };

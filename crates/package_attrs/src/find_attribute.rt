@@ -1,27 +1,18 @@
 // The attribute of a type.
-ghost use Rattle.std.specs.Prelude.{◌≡◌, nat_eq, map, option_copied};
-ghost use Rattle.std.specs.Cmp.Lexicographic.{pointwise};
-ghost use Rattle.std.specs.List.{find};
-ghost use Rattle.der_core.specs.AttributeView.{attribute_view};
 ghost use Rattle.der_core.specs.Reads.{Answers};
 ghost use Rattle.package_attrs.specs.PackageReading.{values_of};
 
-use der_core::Attr;
+use attribute_set::Attributes;
 
-// The first attribute of a type.
-fn find<'a, 'b>(attrs: &'a [Attr<'b>], kind: &[u8]) -> Option<&'a Attr<'b>>
-    ensures { option_copied result ≡ find (λ a. pointwise nat_eq a.kind kind.now) attrs.now }
+// The values of the first attribute of a type.
+pub(crate) fn values_of<'a>(attrs: &Attributes<'a>, kind: &[u8]) -> Option<&'a [u8]>
+    ensures exact { Answers (λ values. values.now) result (values_of kind.now attrs.now) }
 {
-    attrs.iter().find(|attr| attr.kind.octets() == kind)
-}
-
-// Its values.
-pub(crate) fn values_of<'b>(attrs: &[Attr<'b>], kind: &[u8]) -> Option<&'b [u8]>
-    ensures exact { Answers (λ values. values.now) result
-        (values_of kind.now (map attribute_view attrs.now)) }
-{
-    match find(attrs, kind) {
-        Some(attr) => Some(attr.values),
-        None => None,
+    let mut left = attrs.iter();
+    while let Some(attr) = left.next() {
+        if attr.kind.octets() == kind {
+            return Some(attr.values);
+        }
     }
+    None
 }

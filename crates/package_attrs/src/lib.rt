@@ -28,8 +28,8 @@
 //! function of `specs/Reading`, `specs/SerialReading`, `specs/ListReading` or
 //! `specs/PackageReading` gives. Who reads contracts can pass over it.
 //!
-//! Below it stands `der_core`, with the DER of which the texts are made, and for the tests
-//! `attribute_set`. `config_table` keeps names, `package_rules` and `dependency_check` go through
+//! Below it stand `der_core`, with the DER of which the texts are made, and `attribute_set`, with
+//! the attributes. `config_table` keeps names, `package_rules` and `dependency_check` go through
 //! the lists, `report_text` prints identifiers, and `fwload_top` reads what a run is given.
 //!
 //! Narrower than the standard: a legacy name, a legacy stale value and a serial number have 1 to

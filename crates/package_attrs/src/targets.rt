@@ -18,7 +18,7 @@ pub struct Targets<'a> {
 
 impl<'a> Model for Targets<'a> {
     ghost use Rattle.std.specs.Prelude.{ℕ, List};
-    ghost use Rattle.package_attrs.specs.Items.{items_of, AreItems};
+    ghost use Rattle.attribute_set.specs.Items.{items_of, AreItems};
     ghost use Rattle.package_attrs.specs.Reading.{oid_at};
 
     ghost Value = { List (List ℕ) };

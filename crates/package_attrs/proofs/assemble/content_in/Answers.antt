@@ -1,5 +1,3 @@
-use Rattle.std.proofs.Common.{map}
-use Rattle.der_core.specs.AttributeView.{attribute_view}
 use Rattle.der_core.specs.Element.{enc}
 use Rattle.der_core.specs.Objects.{IsOid}
 use Rattle.package_attrs.specs.AttributeTypes.{content_type}
@@ -8,5 +6,5 @@ use Rattle.package_attrs.proofs.assemble.content_in.Goals as goal
 
 pub returns-clause-sound : goal.returns-clause-sound
 returns-clause-sound c =
-    sound_one (enc 0x06) IsOid content_type (map attribute_view c.args.attrs.now) c.in_ok-values_of.field-0.now
+    sound_one (enc 0x06) IsOid content_type c.args.attrs.now c.in_ok-values_of.field-0.now
     c.read_one_oid.result c.in_ok-values_of.ensures.exact c.read_one_oid.ensures.spelled

@@ -1,5 +1,4 @@
-use Rattle.std.proofs.Common.{List, None, inr, map, ap}
-use Rattle.der_core.specs.AttributeView.{attribute_view}
+use Rattle.std.proofs.Common.{List, None, inr, ap}
 use Rattle.package_attrs.specs.declared.name.PackageName.{PackageName}
 use Rattle.package_attrs.specs.declared.package.Info.{Info}
 use Rattle.package_attrs.specs.AttributeTypes.{firmware_package_info}
@@ -9,7 +8,7 @@ use Rattle.package_attrs.proofs.assemble.info_in.Goals as goal
 pub returns-in-None-clause-sound : goal.returns-in-None-clause-sound
 returns-in-None-clause-sound c =
     inr (
-      missing_lacks firmware_package_info (map attribute_view c.args.attrs.now) c.requires c.in-None.ensures.exact,
+      missing_lacks firmware_package_info c.args.attrs.now c.requires c.in-None.ensures.exact,
       ap made c.none.ensures.none,
     )
   where
@@ -18,5 +17,5 @@ returns-in-None-clause-sound c =
 
 pub returns-in-Some-clause-sound : goal.returns-in-Some-clause-sound
 returns-in-Some-clause-sound c =
-    info_sound (map attribute_view c.args.attrs.now) c.in-Some.values.now c.read_info.result c.in-Some.ensures.exact
+    info_sound c.args.attrs.now c.in-Some.values.now c.read_info.result c.in-Some.ensures.exact
     c.read_info.ensures.spelled

@@ -1,10 +1,8 @@
-use Rattle.std.proofs.Common.{map}
-use Rattle.der_core.specs.AttributeView.{attribute_view}
 use Rattle.package_attrs.specs.Description.{description}
 use Rattle.package_attrs.proofs.PackageLaws.{described}
 use Rattle.package_attrs.proofs.assemble.read_package.Goals as goal
 
 pub returns-clause-described : goal.returns-clause-described
 returns-clause-described c =
-    described description (map attribute_view c.args.attrs.now) c.read_whole.result c.requires
+    described description c.args.attrs.now c.read_whole.result c.requires
     c.read_whole.ensures.exact c.read_whole.ensures.sound

@@ -5,7 +5,7 @@ use Rattle.package_attrs.specs.declared.name.PackageName.{PackageName}
 use Rattle.package_attrs.specs.Reading.{name_at}
 use Rattle.package_attrs.proofs.Falls.{name_falls}
 use Rattle.package_attrs.proofs.FewNames.{too_many, none_here, all_read}
-use Rattle.package_attrs.proofs.ItemLemmas.{answered, unanswered, falls}
+use Rattle.attribute_set.proofs.ItemLemmas.{answered, unanswered, falls}
 use Rattle.package_attrs.proofs.dependencies.are_names.Goals as goal
 
 pub returns-then-count-eq-MOST_DEPENDENCIES : goal.returns-then-count-eq-MOST_DEPENDENCIES

@@ -1,7 +1,7 @@
 use Rattle.der_core.proofs.Lists.{some_left, none_left}
 use Rattle.package_attrs.specs.Reading.{oid_at}
 use Rattle.package_attrs.proofs.Falls.{oid_falls}
-use Rattle.package_attrs.proofs.ItemLemmas as items
+use Rattle.attribute_set.proofs.ItemLemmas as items
 use Rattle.package_attrs.proofs.targets.are_oids.Goals as goal
 
 pub returns-then-is_none : goal.returns-then-is_none

@@ -1,8 +1,8 @@
 use Rattle.std.proofs.Common.{sym, ◌∙◌, ap}
-use Rattle.package_attrs.specs.Items.{items_of}
+use Rattle.attribute_set.specs.Items.{items_of}
 use Rattle.package_attrs.specs.SerialReading.{serial_entry_at}
 use Rattle.package_attrs.proofs.Falls.{serial_entry_falls}
-use Rattle.package_attrs.proofs.ItemLemmas.{no_item, passed, shorter}
+use Rattle.attribute_set.proofs.ItemLemmas.{no_item, passed, shorter}
 use Rattle.package_attrs.proofs.community.SerialEntriesIterator.next.Goals as goal
 
 pub returns-in_err-entry-clause-steps : goal.returns-in_err-entry-clause-steps

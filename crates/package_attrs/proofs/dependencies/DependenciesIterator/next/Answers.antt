@@ -1,8 +1,8 @@
 use Rattle.std.proofs.Common.{length, sym, ◌∙◌, ap, arith}
-use Rattle.package_attrs.specs.Items.{items_of}
+use Rattle.attribute_set.specs.Items.{items_of}
 use Rattle.package_attrs.specs.Reading.{name_at}
 use Rattle.package_attrs.proofs.Falls.{name_falls}
-use Rattle.package_attrs.proofs.ItemLemmas.{no_item, passed, shorter}
+use Rattle.attribute_set.proofs.ItemLemmas.{no_item, passed, shorter}
 use Rattle.package_attrs.proofs.dependencies.DependenciesIterator.next.Goals as goal
 
 pub returns-in_err-name-clause-steps : goal.returns-in_err-name-clause-steps

@@ -8,8 +8,11 @@ use Rattle.der_core.specs.Reading.{◌>>?◌}
 use Rattle.der_core.specs.Reads.{Answers}
 use Rattle.der_core.specs.Shapes.{Front, listed}
 use Rattle.der_core.proofs.Listed.{listed_more, listed_none, listed_end}
-use Rattle.package_attrs.specs.Items.{items_of, AreItems}
-use Rattle.package_attrs.proofs.Falls.{Falls}
+use Rattle.attribute_set.specs.Items.{items_of, AreItems}
+
+-- what follows is shorter
+abbrev pub Falls : {V : Type 0} → Front V → Type 0
+Falls {V} read = (bytes : List ℕ) (x : V × List ℕ) → read bytes ≡ Some x → length x.1 < length bytes
 
 -- ---- from the octets to the values
 
@@ -77,6 +80,10 @@ ends {V} front total octets none so_far =
     sym (so_far ∙ ap (λ (o : List ℕ). is_some (listed front o)) none ∙ ap is_some (listed_end front))
 
 -- ---- what is kept
+
+pub is_items : {V : Type 0} (front : Front V) (octets : List ℕ) (these : List V) → listed front octets ≡ Some these
+    → items_of front octets ≡ these
+is_items front octets these is = rw is refl
 
 pub are_items : {V : Type 0} (front : Front V) (octets : List ℕ) → is_some (listed front octets) ≡ true
     → AreItems front octets
