@@ -1,0 +1,68 @@
+// Writing a package's name.
+ghost use Rattle.std.specs.Prelude.{◌≡◌, ◌++◌, ◌<◌, ◌^◌, IfOk, OnOk, OnErr, length};
+ghost use Rattle.der_core.specs.Element.{enc};
+ghost use Rattle.der_core.specs.Number.{number_contents};
+ghost use Rattle.package_attrs.specs.Identifier.{name_text};
+
+use der_core::{Oid, tags};
+use der_write::{put_tlv, put_u128};
+use package_attrs::PackageName;
+use std::alloc::{AllocError, Global};
+
+/// Appends the name's text: the SEQUENCE of identifier and version of a preferred name, or the OCTET
+/// STRING of a legacy one (RFC 4108, section 2.2.3).
+pub fn put_name(alloc: Global, out: &mut Vec<u8>, name: &PackageName) -> Result<(), AllocError>
+    ensures ok { OnOk result (out.new.items ≡ out.old.items ++ name_text name.now) }
+    ensures err { OnErr result (out.new.items ≡ out.old.items) }
+{
+    match name {
+        PackageName::Preferred { id, version } => {
+            let contents = preferred_contents(alloc, id, *version)?;
+            put_tlv(alloc, out, tags::SEQUENCE, &contents)
+        }
+        PackageName::Legacy(octets) => put_tlv(alloc, out, tags::OCTET_STRING, octets.octets()),
+    }
+}
+
+// The identifier and the version of a preferred name.
+fn preferred_contents(alloc: Global, id: &Oid, version: u128) -> Result<Vec<u8>, AllocError>
+    ensures ok { IfOk result (λ contents. contents.items
+        ≡ enc 0x06 id.now ++ enc 0x02 (number_contents version)) }
+    ensures fits { IfOk result (λ contents. length contents.items < 2 ^ 32) }
+{
+    let mut contents = Vec::new(alloc);
+    put_tlv(alloc, &mut contents, tags::OBJECT_IDENTIFIER, id.octets())?;
+    put_u128(alloc, &mut contents, version)?;
+    Ok(contents)
+}
+
+#[cfg(test)]
+mod tests {
+    use super::*;
+    use der_core::{Octets64, read_oid};
+    use std::test::Fail;
+
+    // Whether a name's text is this one.
+    fn writes(alloc: Global, name: &PackageName, text: &[u8]) -> Result<bool, Fail> {
+        let mut out = Vec::new(alloc);
+        put_name(alloc, &mut out, name)?;
+        Ok(out.as_slice() == text)
+    }
+
+    // 1.2.3.1 in version 7, and the legacy name 414243, worked by hand from RFC 4108 and X.690.
+    #[test]
+    fn names_are_written(rt: HostRuntime) -> Result<(), Fail> {
+        let id = read_oid(&[0x2a, 3, 1]).ok_or("an identifier")?;
+        let preferred = PackageName::Preferred { id, version: 7 };
+        let legacy = PackageName::Legacy(Octets64::new(b"ABC").ok_or("octets")?);
+        assert!(rt;
+            writes(
+                rt.alloc(),
+                &preferred,
+                b"\x30\x08\x06\x03\x2a\x03\x01\x02\x01\x07"
+            )?
+        );
+        assert!(rt; writes(rt.alloc(), &legacy, b"\x04\x03ABC")?);
+        Ok(())
+    }
+}
