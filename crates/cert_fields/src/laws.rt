@@ -1,0 +1,12 @@
+// Laws of the definitions, which no call computes.
+ghost use Rattle.std.specs.Prelude.{◌≡◌, Some};
+ghost use Rattle.cert_fields.specs.Certificate.{Certificate, IsCertificate, certificate_text};
+ghost use Rattle.cert_fields.specs.CertificateReading.{certificate_of};
+
+/// A law: two certificates never share a text, and a text is read as its own certificate.
+pub fn one_certificate_text()
+    ensures unique { (c d : Certificate) → IsCertificate c → IsCertificate d
+        → certificate_text c ≡ certificate_text d → c ≡ d }
+    ensures read { (c : Certificate) → IsCertificate c
+        → certificate_of (certificate_text c) ≡ Some c }
+{}
