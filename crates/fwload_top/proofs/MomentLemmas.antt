@@ -7,7 +7,7 @@ use Rattle.der_core.specs.Reads.{Reads}
 use Rattle.der_core.specs.Time.{last_digits, generalized_text}
 use Rattle.fwload_top.specs.declared.words.Command.{Command}
 use Rattle.fwload_top.specs.declared.words.Command.TheVariants as commands
-use Rattle.fwload_top.specs.Words.{Names}
+use Rattle.fwload_top.specs.Words.{Denotes}
 use Rattle.fwload_top.proofs.WordsLemmas.{IsNamed}
 
 -- the digits are a moment's exactly where they and a Z are its GeneralizedTime
@@ -32,7 +32,7 @@ one_or_two same = cc
 
 -- a word with digits that are no moment is no command
 pub no_moment : (word digits : List ℕ) → ((at : ℕ) → IsMoment at → digits ≡ last_digits 14 at → ⊥) → (c : Command)
-    → Names (word ∷ (digits ∷ [])) c → ⊥
+    → Denotes (word ∷ (digits ∷ [])) c → ⊥
 no_moment word digits none commands.Ident named = one_or_two named.1
 no_moment word digits none commands.Sigcheck named = one_or_two named.1
 no_moment word digits none commands.KeyNew named = one_or_two named.1
@@ -42,14 +42,14 @@ no_moment word digits none (commands.Rehearse at) named = none at named.0 (secon
 pub one_moment : (word digits : List ℕ) (at : ℕ) → word ≡ codes "rehearse"
     → Reads (last_digits 14) IsMoment digits (Some at)
     → IsNamed (Some (commands.Rehearse at)) (word ∷ (digits ∷ []))
-one_moment word digits at is reads c = ((λ e. subst (Names (word ∷ (digits ∷ []))) (some_same e) forth), back c)
+one_moment word digits at is reads c = ((λ e. subst (Denotes (word ∷ (digits ∷ []))) (some_same e) forth), back c)
   where
-    forth : Names (word ∷ (digits ∷ [])) (commands.Rehearse at)
+    forth : Denotes (word ∷ (digits ∷ [])) (commands.Rehearse at)
     forth =
         let read = (reads at).0 refl in
         (read.0, ap (λ (w : List ℕ). w ∷ (digits ∷ [])) is ∙ ap (λ (ds : List ℕ). codes "rehearse" ∷ (ds ∷ [])) read.1)
 
-    back : (c : Command) → Names (word ∷ (digits ∷ [])) c
+    back : (c : Command) → Denotes (word ∷ (digits ∷ [])) c
         → ◌≡◌ {A = Option Command} (Some (commands.Rehearse at)) (Some c)
     back commands.Ident named = absurd (one_or_two named.1)
     back commands.Sigcheck named = absurd (one_or_two named.1)

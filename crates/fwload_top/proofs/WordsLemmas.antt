@@ -8,11 +8,11 @@ use Rattle.std.specs.declared.string.String.{String}
 use Rattle.std.specs.Global.{Global}
 use Rattle.fwload_top.specs.declared.words.Command.{Command}
 use Rattle.fwload_top.specs.declared.words.Command.TheVariants as commands
-use Rattle.fwload_top.specs.Words.{words_of, Names, Asks}
+use Rattle.fwload_top.specs.Words.{words_of, Denotes, Asks}
 
 -- the found command is the one that the words behind the file's name are of
 abbrev pub IsNamed : Option Command → List (List ℕ) → Type 0
-IsNamed found words = (c : Command) → (found ≡ Some c) ↔ Names words c
+IsNamed found words = (c : Command) → (found ≡ Some c) ↔ Denotes words c
 
 same_tail : {a b : List ℕ} {rest others : List (List ℕ)} → a ∷ rest ≡ b ∷ others → rest ≡ others
 same_tail e = cc

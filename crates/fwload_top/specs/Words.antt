@@ -22,8 +22,8 @@ IsCommand commands.KeyNew = Unit {0}
 IsCommand (commands.Rehearse at) = IsMoment at
 
 -- these words behind the flash file's name are the command's
-abbrev pub Names : List (List ℕ) → Command → Type 0
-Names words c = IsCommand c × (words ≡ words_of c)
+abbrev pub Denotes : List (List ℕ) → Command → Type 0
+Denotes words c = IsCommand c × (words ≡ words_of c)
 
 -- the words are the flash file's name, which may be anything, and then the command's
 abbrev pub Spells : List (List ℕ) → Command → Type 0

@@ -3,7 +3,7 @@ ghost use Rattle.std.specs.Prelude.{◌≡◌, ◌↔◌, ◌∷◌, [], Some};
 ghost use Rattle.der_core.specs.Moment.{IsMoment};
 ghost use Rattle.der_core.specs.Reads.{Reads};
 ghost use Rattle.der_core.specs.Time.{last_digits};
-ghost use Rattle.fwload_top.specs.Words.{Asks, Names};
+ghost use Rattle.fwload_top.specs.Words.{Asks, Denotes};
 
 use der_core::{Moment, read_time, tags};
 
@@ -34,7 +34,7 @@ pub(crate) fn command_of(words: &[String]) -> Option<Command>
 
 // The command that is one word.
 fn without_argument(word: &str) -> Option<Command>
-    ensures { (c : Command) → (result ≡ Some c) ↔ Names (word.now ∷ []) c }
+    ensures { (c : Command) → (result ≡ Some c) ↔ Denotes (word.now ∷ []) c }
 {
     if word == "ident" {
         Some(Command::Ident)
@@ -49,7 +49,7 @@ fn without_argument(word: &str) -> Option<Command>
 
 // The command that is one word with a moment.
 fn with_moment(word: &str, digits: &str) -> Option<Command>
-    ensures { (c : Command) → (result ≡ Some c) ↔ Names (word.now ∷ digits.now ∷ []) c }
+    ensures { (c : Command) → (result ≡ Some c) ↔ Denotes (word.now ∷ digits.now ∷ []) c }
 {
     if word != "rehearse" {
         return None;
