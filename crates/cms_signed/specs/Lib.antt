@@ -1,0 +1,9 @@
+pub mod Cut
+pub mod CutReading
+pub mod Outline
+pub mod Gapped
+pub mod Signed
+pub mod SignedReading
+pub mod SignedView
+pub mod Answer
+pub mod Tail
