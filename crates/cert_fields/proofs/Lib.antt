@@ -1,1 +1,3 @@
 pub mod CertificateLaws
+pub mod ConstraintLaws
+pub mod OwnKeys

@@ -1,3 +1,6 @@
 pub mod Certificate
 pub mod CertificateReading
+pub mod Constraints
+pub mod ConstraintsReading
+pub mod ConstraintsView
 pub mod View

@@ -111,3 +111,41 @@ fn tells_certificates_from_other_octets(rt: HostRuntime) -> Result<(), Fail> {
     assert!(rt; !is_cert(alloc, V1, NAMES, b"", b"\x03\x01\x00\x00")?);
     Ok(())
 }
+
+// Whether octets, in a SEQUENCE, are constraints. By hand from RFC 6010, section 3, and X.690.
+fn are_constraints(alloc: Global, entries: &[u8]) -> Result<bool, Fail> {
+    let mut octets = Vec::new(alloc);
+    octets.extend_from_slice(&[0x30, (entries.len() % 128) as u8])?;
+    octets.extend_from_slice(entries)?;
+    Ok(read_ccc(alloc, &octets)?.is_some())
+}
+
+#[test]
+fn tells_constraints_from_other_octets(rt: HostRuntime) -> Result<(), Fail> {
+    let alloc = rt.alloc();
+    assert!(rt; are_constraints(alloc, b"\x30\x03\x06\x01\x2a")?);
+    assert!(rt; !are_constraints(alloc, b"")?);
+    // content types that differ, and one that stands twice
+    assert!(rt; are_constraints(alloc, b"\x30\x03\x06\x01\x2a\x30\x03\x06\x01\x2b")?);
+    assert!(rt; !are_constraints(alloc, TYPE_TWICE)?);
+    // canSource as cannotSource, as its DEFAULT written, and as another number
+    assert!(rt; are_constraints(alloc, b"\x30\x06\x06\x01\x2a\x0a\x01\x01")?);
+    assert!(rt; !are_constraints(alloc, b"\x30\x06\x06\x01\x2a\x0a\x01\x00")?);
+    assert!(rt; !are_constraints(alloc, b"\x30\x06\x06\x01\x2a\x0a\x01\x02")?);
+    // no attribute, one without values, a value twice, and a type twice
+    assert!(rt; !are_constraints(alloc, b"\x30\x05\x06\x01\x2a\x30\x00")?);
+    assert!(rt; !are_constraints(alloc, NO_VALUES)?);
+    assert!(rt; are_constraints(alloc, VALUE_TWICE)?);
+    assert!(rt; !are_constraints(alloc, ATTRIBUTE_TWICE)?);
+    Ok(())
+}
+
+const TYPE_TWICE: &[u8] = b"\x30\x03\x06\x01\x2a\x30\x03\x06\x01\x2b\x30\x03\x06\x01\x2a";
+
+const NO_VALUES: &[u8] = b"\x30\x0c\x06\x01\x2a\x30\x07\x30\x05\x06\x01\x2a\x31\x00";
+
+const VALUE_TWICE: &[u8] =
+    b"\x30\x10\x06\x01\x2a\x30\x0b\x30\x09\x06\x01\x2a\x31\x04\x05\x00\x05\x00";
+
+const ATTRIBUTE_TWICE: &[u8] = b"\x30\x17\x06\x01\x2a\x30\x12\
+    \x30\x07\x06\x01\x2a\x31\x02\x05\x00\x30\x07\x06\x01\x2a\x31\x02\x05\x00";
