@@ -58,7 +58,7 @@ impl ContentStream {
         content_size: u32,
         front: &[u8],
     ) -> Result<ContentStream, AllocError>
-        requires { length front.now ≡ min 6 content_size }
+        requires front { length front.now ≡ min 6 content_size }
         ensures plan { IfOk result (λ stream.
             IsPlanned base content_size front.now pool.old pool.new (plan_of stream)) }
         ensures none { IfOk result (λ stream. fed_of stream ≡ 0) }

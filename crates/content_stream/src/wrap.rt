@@ -9,7 +9,7 @@ use der_core::{read_head, tags};
 /// The length of the image of a content of so many octets that begins with `front`: its first six, or
 /// all where it has fewer (RFC 4108, section 2.1.5).
 pub fn image_length(content_size: u32, front: &[u8]) -> u32
-    requires { length front.now ≡ min 6 content_size }
+    requires front { length front.now ≡ min 6 content_size }
     ensures wrap { (wrap_size : ℕ) × IsWrapSize content_size front.now wrap_size
         × (wrap_size ≤ content_size) × (result ≡ content_size - wrap_size) }
     ensures image { (content image : List ℕ) → length content ≡ content_size

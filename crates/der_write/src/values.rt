@@ -1,4 +1,4 @@
-ghost use Rattle.std.specs.Prelude.{◌≡◌, ◌++◌, OnOk, OnErr};
+ghost use Rattle.std.specs.Prelude.{◌≡◌, ◌++◌, ◌≤◌, ◌+◌, length, OnOk, OnErr};
 ghost use Rattle.der_core.specs.Element.{enc};
 ghost use Rattle.der_core.specs.Number.{number_contents};
 
@@ -7,9 +7,10 @@ use crate::element::put_tlv;
 use der_core::{Oid, tags};
 use std::alloc::{AllocError, Global};
 
-/// Appends an OBJECT IDENTIFIER (X.690, section 8.19).
+/// Appends an OBJECT IDENTIFIER (X.690, section 8.19), in 66 octets at most.
 pub fn put_oid(alloc: Global, out: &mut Vec<u8>, oid: &Oid) -> Result<(), AllocError>
     ensures ok { OnOk result (out.new.items ≡ out.old.items ++ enc 0x06 oid.now) }
+    ensures most { OnOk result (length out.new.items ≤ length out.old.items + 66) }
     ensures err { OnErr result (out.new.items ≡ out.old.items) }
 {
     put_tlv(alloc, out, tags::OBJECT_IDENTIFIER, oid.octets())

@@ -44,7 +44,7 @@ impl MemSource {
 
     /// The same, but a read gives `size` octets at most.
     pub fn pieces(bytes: Vec<u8>, failing: Vec<u64>, size: usize) -> MemSource
-        requires { 1 ≤ size }
+        requires piece { 1 ≤ size }
         ensures plan { source_plan result ≡ record {
           made = 0;
           failing = failing.items;

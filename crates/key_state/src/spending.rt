@@ -36,7 +36,7 @@ impl Model for Leaf {
 impl Leaf {
     /// The leaf number q, from 0 on.
     pub fn number(&self) -> u32
-        ensures { result ≡ self.now }
+        ensures number { result ≡ self.now }
     {
         self.number
     }

@@ -50,7 +50,7 @@ fn take_step(octets: &mut [u8; 55], j: u8)
 /// Chain `i` of leaf `q` from place `from` to place `to`: the value after the steps `from` to `to - 1`,
 /// each of one block of SHA-256 (RFC 8554, sections 4.3, 4.5 and 4.6).
 pub fn chain(id: &[u8; 16], q: u32, i: u16, from: u8, to: u8, value: &[u8]) -> [u8; 32]
-    requires { length value.now ≡ 32 }
+    requires value_size { length value.now ≡ 32 }
     ensures value { result ≡ chain id.now q i from to value.now }
 {
     let mut octets = step_octets(id, q, i, value);

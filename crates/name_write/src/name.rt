@@ -5,7 +5,7 @@ ghost use Rattle.der_core.specs.Number.{number_contents};
 ghost use Rattle.package_attrs.specs.Identifier.{name_text};
 
 use der_core::{Oid, tags};
-use der_write::{put_tlv, put_u128};
+use der_write::{put_oid, put_tlv, put_u128};
 use package_attrs::PackageName;
 use std::alloc::{AllocError, Global};
 
@@ -31,7 +31,7 @@ fn preferred_contents(alloc: Global, id: &Oid, version: u128) -> Result<Vec<u8>,
     ensures fits { IfOk result (λ contents. length contents.items < 2 ^ 32) }
 {
     let mut contents = Vec::new(alloc);
-    put_tlv(alloc, &mut contents, tags::OBJECT_IDENTIFIER, id.octets())?;
+    put_oid(alloc, &mut contents, id)?;
     put_u128(alloc, &mut contents, version)?;
     Ok(contents)
 }

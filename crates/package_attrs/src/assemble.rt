@@ -172,7 +172,7 @@ fn read_whole<'a>(attrs: &Attributes<'a>) -> Option<Package<'a>>
 /// 2.2; RFC 5652, section 11). None where an attribute that must be there isn't, or one that is
 /// read doesn't have exactly one value, of its form. Attributes of other types are passed over.
 pub fn read_package<'a>(attrs: &Attributes<'a>) -> Option<Package<'a>>
-    requires { HaveOwnTypes attrs.now }
+    requires own { HaveOwnTypes attrs.now }
     ensures described { (d : Description) → (option_map description result ≡ Some d)
         ↔ Describes attrs.now d }
     ensures exact { Answers description result (package_of attrs.now) }

@@ -4,5 +4,5 @@ use Rattle.package_attrs.proofs.assemble.read_package.Goals as goal
 
 pub returns-clause-described : goal.returns-clause-described
 returns-clause-described c =
-    described description c.args.attrs.now c.read_whole.result c.requires
+    described description c.args.attrs.now c.read_whole.result c.requires.own
     c.read_whole.ensures.exact c.read_whole.ensures.sound
