@@ -1,2 +1,1 @@
 pub mod OneOrder
-pub mod Results

@@ -1,4 +1,4 @@
-ghost use Rattle.std.specs.Prelude.{◌≡◌, ◌++◌, length, OnOk, OnErr};
+ghost use Rattle.std.specs.Prelude.{◌≡◌, ◌++◌, ◌+◌, ◌≤◌, length, OnOk, OnErr};
 ghost use Rattle.der_core.specs.Element.{enc};
 ghost use Rattle.der_core.specs.Time.{last_digits, utc_text, generalized_text};
 ghost use Rattle.der_core.specs.Time.{time_tag, time_contents};
@@ -41,9 +41,10 @@ fn generalized_contents(digits: u64) -> [u8; 15]
 }
 
 /// Appends a time: a UTCTime for the years 1950 to 2049, and a GeneralizedTime for all others
-/// (RFC 5280, section 4.1.2.5).
+/// (RFC 5280, section 4.1.2.5). It has 21 octets at most.
 pub fn put_time(alloc: Global, out: &mut Vec<u8>, at: Moment) -> Result<(), AllocError>
     ensures ok { OnOk result (out.new.items ≡ out.old.items ++ enc (time_tag at) (time_contents at)) }
+    ensures most { OnOk result (length out.new.items ≤ length out.old.items + 21) }
     ensures err { OnErr result (out.new.items ≡ out.old.items) }
 {
     let digits = at.digits();

@@ -1,5 +1,5 @@
 // Writing a package's name.
-ghost use Rattle.std.specs.Prelude.{◌≡◌, ◌++◌, ◌<◌, ◌^◌, IfOk, OnOk, OnErr, length};
+ghost use Rattle.std.specs.Prelude.{◌≡◌, ◌++◌, ◌≤◌, ◌+◌, IfOk, OnOk, OnErr, length};
 ghost use Rattle.der_core.specs.Element.{enc};
 ghost use Rattle.der_core.specs.Number.{number_contents};
 ghost use Rattle.package_attrs.specs.Identifier.{name_text};
@@ -10,9 +10,10 @@ use package_attrs::PackageName;
 use std::alloc::{AllocError, Global};
 
 /// Appends the name's text: the SEQUENCE of identifier and version of a preferred name, or the OCTET
-/// STRING of a legacy one (RFC 4108, section 2.2.3).
+/// STRING of a legacy one (RFC 4108, section 2.2.3). They are 99 octets at most.
 pub fn put_name(alloc: Global, out: &mut Vec<u8>, name: &PackageName) -> Result<(), AllocError>
     ensures ok { OnOk result (out.new.items ≡ out.old.items ++ name_text name.now) }
+    ensures most { OnOk result (length out.new.items ≤ length out.old.items + 99) }
     ensures err { OnErr result (out.new.items ≡ out.old.items) }
 {
     match name {
@@ -28,7 +29,7 @@ pub fn put_name(alloc: Global, out: &mut Vec<u8>, name: &PackageName) -> Result<
 fn preferred_contents(alloc: Global, id: &Oid, version: u128) -> Result<Vec<u8>, AllocError>
     ensures ok { IfOk result (λ contents. contents.items
         ≡ enc 0x06 id.now ++ enc 0x02 (number_contents version)) }
-    ensures fits { IfOk result (λ contents. length contents.items < 2 ^ 32) }
+    ensures most { IfOk result (λ contents. length contents.items ≤ 93) }
 {
     let mut contents = Vec::new(alloc);
     put_oid(alloc, &mut contents, id)?;

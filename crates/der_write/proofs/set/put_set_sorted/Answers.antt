@@ -1,11 +1,15 @@
-use Rattle.std.proofs.Common.{◌≡◌, List, ℕ, ap, sym, subst, refl, ◌∙◌, map, length, arith, Vec, Global}
+use Rattle.std.proofs.Common.{◌≡◌, List, ℕ, ap, sym, subst, refl, ◌∙◌, map, length, arith, Vec, Global, Result, Ok, Err, OnOk}
 use Rattle.std.proofs.lemmas.List.Concat.{length-flat_map}
 use Rattle.std.proofs.lemmas.List.Sorted.{sum_by-IsPermutation}
 use Rattle.std.specs.List.Sorted.{IsPermutation}
 use Rattle.der_core.specs.Element.{enc}
 use Rattle.der_write.specs.Sets.{joined, IsSetContents}
-use Rattle.der_write.proofs.Results.{on_ok}
 use Rattle.der_write.proofs.set.put_set_sorted.Goals as goal
+
+-- what follows where a call answers Ok
+on_ok : {T E P Q : Type 0} (result : Result T E) → OnOk result P → (P → Q) → OnOk result Q
+on_ok (Ok x) p follows = follows p
+on_ok (Err e) p follows = tt
 
 -- in whatever order they stand, the parts have as many octets
 joined_length : (parts order : List (List ℕ)) → IsPermutation parts order → length (joined order) ≡ length (joined parts)
