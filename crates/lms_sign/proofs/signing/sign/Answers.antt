@@ -36,5 +36,5 @@ returns c = record {
       in_order c.copy_from_slice.new.self c.copy_from_slice-2.new.self c.copy_from_slice-3.new.self
       c.copy_from_slice-4.new.self c.put_values.new.out c.copy_from_slice-5.new.self c.put_path.new.out
       ∙ rw (levels, leaf, ots, random, values, kind, way) refl
-      ∙ ap (λ (n : ℕ). sign_text key n message) c.number-q.ensures;
+      ∙ ap (λ (n : ℕ). sign_text key n message) c.number-q.ensures.number;
 }
