@@ -40,7 +40,7 @@
 #![tactic(auto)]
 
 mod assemble;
-mod attribute_types;
+pub mod attribute_types;
 mod community;
 mod covers;
 mod dependencies;
