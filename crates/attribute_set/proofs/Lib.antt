@@ -1,5 +1,6 @@
 pub mod ItemLemmas
 pub mod Orders
+pub mod OwnTypes
 pub mod Readings
 pub mod TypeLemmas
 pub mod Written

@@ -8,6 +8,8 @@
 //!   `YieldsFirstBy`).
 //! - `are_attributes` says whether octets are attributes in any order, without memory
 //!   (`attributes`), which is what unsigned attributes are asked to be.
+//! - `have_own_types` says whether no type stands twice among SEQUENCEs that each begin with one
+//!   (`own`): attributes here, and extensions and content constraints above.
 //! - `laws` says that octets are those of one list of attributes at most, and that attributes of
 //!   distinct types, written as the contents of a SET OF by `der_write`, are such attributes.
 //!
@@ -33,3 +35,4 @@ mod types;
 pub use any_order::are_attributes;
 pub use attributes::Attributes;
 pub use read::read_attribute_set;
+pub use types::have_own_types;

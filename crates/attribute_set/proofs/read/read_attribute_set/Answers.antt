@@ -10,6 +10,7 @@ use Rattle.der_core.specs.AttributeReading.{attribute_at}
 use Rattle.attribute_set.specs.Items.{items_of}
 use Rattle.attribute_set.proofs.ItemLemmas.{is_items}
 use Rattle.attribute_set.proofs.Readings.{reads_set, reads_none}
+use Rattle.attribute_set.proofs.OwnTypes.{own_attributes}
 use Rattle.attribute_set.proofs.read.read_attribute_set.Goals.{else-ascend-via-else-ascend}
 use Rattle.attribute_set.proofs.read.read_attribute_set.Goals.{else-ascend-via-then-ascend+in_ok-have_own_types+else-branch}
 use Rattle.attribute_set.proofs.read.read_attribute_set.Goals as goal
@@ -18,7 +19,15 @@ pub returns-then-branch-clause-spelled : goal.returns-then-branch-clause-spelled
 returns-then-branch-clause-spelled c =
     let told = c.ascend.ensures.0 c.if-ascend.true in
     reads_set c.args.contents.now (items_of attribute_at c.args.contents.now) (λ i. omega (arith, c.type_inv.contents i))
-    told.0 told.1 (c.in_ok-have_own_types.ensures.0 c.if-branch.true)
+    told.0 told.1
+    ((own_attributes c.args.contents.now (λ i. omega (arith, c.type_inv.contents i)) told.0).0
+    (c.in_ok-have_own_types.ensures.own.0 c.if-branch.true))
+
+pub returns-then-branch-clause-distinct : goal.returns-then-branch-clause-distinct
+returns-then-branch-clause-distinct c =
+    let told = c.ascend.ensures.0 c.if-ascend.true in
+    (own_attributes c.args.contents.now (λ i. omega (arith, c.type_inv.contents i)) told.0).0
+    (c.in_ok-have_own_types.ensures.own.0 c.if-branch.true)
 
 pub returns-else-ascend-clause-spelled : goal.returns-else-ascend-clause-spelled
 returns-else-ascend-clause-spelled c =
@@ -27,7 +36,9 @@ returns-else-ascend-clause-spelled c =
     elim c.else-ascend.branch [
       | else-ascend-via-then-ascend+in_ok-have_own_types+else-branch w ↦
           false≢true (sym w.if-branch.false
-          ∙ w.in_ok-have_own_types.ensures.1 (subst (IsDistinct bytes_eq) (ap (map (λ (a : Attribute). a.kind)) (sym items)) set.distinct))
+          ∙ w.in_ok-have_own_types.ensures.own.1
+          ((own_attributes c.args.contents.now (λ i. omega (arith, c.type_inv.contents i)) (is ∙ ap Some (sym items))).1
+          (subst (IsDistinct bytes_eq) (ap (map (λ (a : Attribute). a.kind)) (sym items)) set.distinct)))
       | else-ascend-via-else-ascend w ↦
           false≢true (sym w.if-ascend.false
           ∙ c.ascend.ensures.1 (
