@@ -32,7 +32,7 @@ use Rattle.cert_fields.specs.CertificateReading.{signed_at, certificate_value, c
 
 -- ---- leaves
 
-sequence-front : IsFront (λ (octets : List ℕ). octets) (IsTagged 0x30) sequence_at
+pub sequence-front : IsFront (λ (octets : List ℕ). octets) (IsTagged 0x30) sequence_at
 sequence-front = whole_element-front 0x30
 
 version_fits : (v : ℕ) → v < 2 ^ 128 → length (enc 0x02 (number_contents v)) < 2 ^ 32

@@ -1,11 +1,11 @@
 -- Content constraints are read exactly.
-use Rattle.std.proofs.Common.{◌≡◌, ℕ, zero, suc, ◌<◌, Bool, true, false, eqb, cond, List, [], ◌∷◌, ◌++◌}
-use Rattle.std.proofs.Common.{length, Bor, Option, Some, None, refl, sym, ap, subst, ◌∙◌, inl, inr, arith}
-use Rattle.std.specs.Prelude.{IsTrue, IfSome, not, map, bytes_eq}
+use Rattle.std.proofs.Common.{◌≡◌, ◌↔◌, ℕ, zero, suc, ◌<◌, Bool, true, false, eqb, cond, List, [], ◌∷◌, ◌++◌}
+use Rattle.std.proofs.Common.{length, Option, Some, None, refl, sym, ap, subst, ◌∙◌, inl, inr, arith}
+use Rattle.std.specs.Prelude.{IsTrue, IfSome, IfOk, Result, Ok, Err, not, map, bytes_eq}
 use Rattle.std.specs.List.{AllByRecursion, IsDistinct, flat_map}
 use Rattle.std.specs.Option.{unwrap_or}
-use Rattle.std.proofs.lemmas.Bool.{eqb-true, ne_eqb, cases_Bool}
-use Rattle.std.proofs.lemmas.List.{length-append, append-nil}
+use Rattle.std.proofs.lemmas.Bool.{eqb-true, ne_eqb, cases_Bool, false≢true}
+use Rattle.std.proofs.lemmas.List.{length-append}
 use Rattle.std.proofs.lemmas.Option.{none-some}
 use Rattle.der_core.specs.Attribute.{Attribute, attribute_contents, attribute_text, IsAttribute}
 use Rattle.der_core.specs.AttributeReading.{attribute_of}
@@ -14,28 +14,30 @@ use Rattle.der_core.specs.Objects.{IsOid}
 use Rattle.der_core.specs.Reading.{◌>>?◌, tagged_of}
 use Rattle.der_core.specs.Shapes.{Whole, IsFront, IsWhole, IsOneElement, text_if, text_unless, any_element, tested, listed, begins_with, alone, element, anything}
 use Rattle.der_core.proofs.AttributeLaws.{any_element_falls, attr-whole}
-use Rattle.der_core.proofs.Components.{kept-whole, defaulted-whole}
+use Rattle.der_core.proofs.Components.{defaulted-whole}
 use Rattle.der_core.proofs.Digits.{AreOctets-left}
 use Rattle.der_core.proofs.Numbers.{some_bind, some_is}
 use Rattle.der_core.proofs.Places.{length-enc}
 use Rattle.der_core.proofs.Shapes.{is_tag, element-front, sized-element-front, same-front, alone-whole, before-whole}
 use Rattle.der_core.proofs.Shapes.{optional-whole, mapped-whole, tested-whole, listed-whole, listed_end, oid-whole}
-use Rattle.der_core.proofs.Shapes.{any_element-front, enc-begins, element-falls, tagged_again}
+use Rattle.der_core.proofs.Shapes.{any_element-front, enc-begins, element-falls}
 use Rattle.der_core.specs.Reads.{Reads, Answers}
 use Rattle.attribute_set.specs.Items.{items_of, AreItems}
+use Rattle.attribute_set.specs.Types.{HaveOwnTypes}
+use Rattle.attribute_set.proofs.ItemLemmas.{is_items}
+use Rattle.attribute_set.proofs.TypeLemmas.{own_where, type_first}
+use Rattle.cert_fields.specs.AnchorView.{kept_constraints}
 use Rattle.cert_fields.specs.Constraints.{ContentConstraint, is_source, source_number, source_text, is_unconstrained}
 use Rattle.cert_fields.specs.Constraints.{attributes_text, entry_contents, entry_text, constraints_text}
 use Rattle.cert_fields.specs.Constraints.{IsConstrained, IsEntry, HasOwnTypes, AreConstraints}
 use Rattle.cert_fields.specs.ConstraintsReading.{type_at, source_of, source_at, has_values, constrained_at, some_octets}
-use Rattle.cert_fields.specs.ConstraintsReading.{attributes_of, attributes_list_of, list_of, entry_value, entry_of, entry_at, entries_of, kind_of, HaveOwnKeys}
+use Rattle.cert_fields.specs.ConstraintsReading.{attributes_of, attributes_list_of, list_of, entry_value, entry_of, entry_at, entries_of, HaveOwnContents}
 
 -- ---- leaves
 
-type-front : IsFront (enc 0x06) IsOid type_at
+pub type-front : IsFront (enc 0x06) IsOid type_at
 unfolding type_at
-type-front = same-front (λ o h. (subst IsOid (sym h.2) h.1, refl)) (λ o h. (o, h, refl))
-    (element-front 0x06 (is_tag 0x06 refl) (λ o h. omega (arith, (subst IsOid (sym h.2) h.1).most))
-    (kept-whole oid-whole))
+type-front = element-front 0x06 (is_tag 0x06 refl) (λ o h. omega (arith, h.most)) oid-whole
 
 source-whole : IsWhole (λ can_source. source_number can_source ∷ []) (λ can_source. Unit {0}) source_of
 unfolding source_of
@@ -110,30 +112,13 @@ constrained_falls bytes x e =
     subst (λ (y : Attribute × List ℕ). length y.1 < length bytes) (some_is (c.0, b.0.1) x c.2)
     (any_element_falls bytes b.0 b.1)
 
--- the type that stands in an attribute's octets
-pub kind_is : (octets : List ℕ) (a : Attribute) → AreOctets octets → attribute_of octets ≡ Some a
-    → kind_of octets ≡ Some a.kind
-unfolding kind_of
-kind_is octets a are e =
-    let t = attr-whole.takes octets a are e in
-    let outer : tagged_of 0x30 (attribute_text a) ≡ Some (attribute_contents a, []) =
-    ap (tagged_of 0x30) (sym (append-nil (attribute_text a)))
-    ∙ tagged_again 0x30 (attribute_contents a) []
-    (record { octet = omega arith; low_bits = omega arith; fits = t.0.fits }) in
-    let inner : tagged_of 0x06 (attribute_contents a) ≡ Some (a.kind, enc 0x31 a.values) =
-    tagged_again 0x06 a.kind (enc 0x31 a.values)
-    (record { octet = omega arith; low_bits = omega arith; fits = omega (arith, t.0.kind.most) }) in
-    rw (t.1, outer, inner) refl
-
 pub valueless : (octets : List ℕ) (a : Attribute) (none : Bool) → attribute_of octets ≡ Some a
     → none ≡ eqb (length a.values) 0 → none ≡ true → tested has_values attribute_of octets ≡ None
 valueless octets a none e is end = rw (e, sym is ∙ end) refl
 
-pub constrained_is : (octets kind : List ℕ) (a : Attribute) (none : Bool) → AreOctets octets
-    → attribute_of octets ≡ Some a → none ≡ eqb (length a.values) 0 → none ≡ false → kind_of octets ≡ Some kind
-    → tested has_values attribute_of octets ≡ Some (record { kind = kind; values = a.values })
-constrained_is octets kind a none are e is some names =
-    rw (e, sym is ∙ some, some_is kind a.kind (sym names ∙ kind_is octets a are e)) refl
+pub kept_where_valued : (octets : List ℕ) (a : Attribute) (none : Bool) → attribute_of octets ≡ Some a
+    → none ≡ eqb (length a.values) 0 → none ≡ false → tested has_values attribute_of octets ≡ Some a
+kept_where_valued octets a none e is some = rw (e, sym is ∙ some) refl
 
 -- ---- what octets are, where there are any
 
@@ -253,35 +238,22 @@ pub attributes_end : (bytes kept : List ℕ) → bytes ≡ [] → kept ≡ bytes
 unfolding attributes_of
 attributes_end bytes kept none same = rw (same, none, listed_end constrained_at) (refl, refl)
 
-pub attributes_left : (bytes : List ℕ) (result : Option (Bor (List ℕ))) → 0 < length bytes
-    → Answers (λ a. items_of constrained_at a.now) result (attributes_list_of bytes)
-    → Answers (λ a. items_of constrained_at a.now) result (attributes_of bytes)
+pub attributes_left : (bytes : List ℕ) (result : Option (List Attribute)) → 0 < length bytes
+    → Answers (λ a. a) result (attributes_list_of bytes) → Answers (λ a. a) result (attributes_of bytes)
 unfolding attributes_of
 attributes_left bytes None some is = rw (ne_eqb (length bytes) 0 (λ e. omega (arith, e, some)), is) refl
 attributes_left bytes (Some a) some is = rw (ne_eqb (length bytes) 0 (λ e. omega (arith, e, some)), is) refl
 
-abbrev pub HaveOwnKinds : List ℕ → Type 0
-HaveOwnKinds octets = HaveOwnKeys constrained_at (λ a. a.kind) (λ _. Unit {0}) octets
+-- no type stands twice
+abbrev pub OwnKinds : List Attribute → Type 0
+OwnKinds attributes = IsDistinct bytes_eq (map (λ a. a.kind) attributes)
 
--- the attributes that octets are have types of their own
-pub own_types : (octets : List ℕ) → HaveOwnKinds octets
-    → IsDistinct bytes_eq (map (λ a. a.kind) (items_of constrained_at octets))
-own_types octets own =
-    subst (λ (all : List Attribute). IsDistinct bytes_eq (map (λ a. a.kind) all))
-    (sym (ap (λ (o : Option (List Attribute)). unwrap_or o []) own.read)) own.distinct
-
-pub own_keys : (octets : List ℕ) → AreItems constrained_at octets
-    → IsDistinct bytes_eq (map (λ a. a.kind) (items_of constrained_at octets)) → HaveOwnKinds octets
-own_keys octets are own = record {
-  values = items_of constrained_at octets;
-  read = are;
-  distinct = own;
-  each = each (items_of constrained_at octets);
-}
-  where
-    each : (all : List Attribute) → AllByRecursion (λ (a : Attribute). Unit {0}) all
-    each [] = tt
-    each (a ∷ more) = (tt, each more)
+pub own_kinds : (octets : List ℕ) → AreOctets octets → AreItems constrained_at octets
+    → HaveOwnTypes octets ↔ OwnKinds (items_of constrained_at octets)
+own_kinds octets octet are =
+    own_where constrained_at (λ (a : Attribute). a.kind) constrained-front constrained_falls
+    (λ a rest h. type_first a.kind (enc 0x31 a.values) rest h.attribute.kind.most h.attribute.fits) octets
+    (items_of constrained_at octets) octet are
 
 -- ---- entries
 
@@ -358,8 +330,33 @@ some_entries (e ∷ more) h =
 
 -- ---- what is answered
 
-abbrev pub HaveOwnContents : List ℕ → Type 0
-HaveOwnContents octets = HaveOwnKeys entry_at (λ e. e.content) HasOwnTypes octets
+pub own_contents : (octets : List ℕ) → AreOctets octets → AreItems entry_at octets
+    → HaveOwnTypes octets ↔ IsDistinct bytes_eq (map (λ e. e.content) (items_of entry_at octets))
+own_contents octets octet are =
+    own_where entry_at (λ (e : ContentConstraint). e.content) entry-front entry_falls
+    (λ e rest h.
+    type_first e.content
+    (text_unless is_source source_text e.can_source ++ text_unless is_unconstrained attributes_text e.attributes) rest
+    h.content.most h.fits)
+    octets (items_of entry_at octets) octet are
+
+-- what a test tells, of the same in other words
+pub own_told : {A B E : Type 0} (r : Result Bool E) → IfOk r (λ own. IsTrue own ↔ A) → A ↔ B → IfOk r (λ own. IsTrue own ↔ B)
+own_told (Ok own) told same = (λ is. same.0 (told.0 is), λ b. told.1 (same.1 b))
+own_told (Err e) told same = told
+
+-- the tests are made one after the other
+pub all_told : {E : Type 0} (octets : List ℕ) (r : Result Bool E) → AreOctets octets → AreItems entry_at octets
+    → HaveOwnTypes octets → IfOk r (λ own. IsTrue own ↔ AllByRecursion HasOwnTypes (items_of entry_at octets))
+    → IfOk r (λ own. IsTrue own ↔ HaveOwnContents octets)
+all_told octets r octet are types told =
+    own_told r told (
+      λ all. record { items = are; contents = (own_contents octets octet are).0 types; types = all },
+      λ own. own.types,
+    )
+
+pub not_own : (octets : List ℕ) → (HaveOwnContents octets → ⊥) → IsTrue false ↔ HaveOwnContents octets
+not_own octets never = (λ wrong. absurd (false≢true wrong), λ own. absurd (never own))
 
 entries_are : (bytes contents : List ℕ) → list_of bytes ≡ Some contents → entries_of bytes ≡ listed entry_at contents
 unfolding entries_of
@@ -371,32 +368,34 @@ again entries h = entries-whole.again entries ((h.each, some_entries entries h.s
 pub reads_some : (bytes contents : List ℕ) → AreOctets bytes → list_of bytes ≡ Some contents → HaveOwnContents contents
     → Reads constraints_text AreConstraints bytes (Some (items_of entry_at contents))
 reads_some bytes contents octets e own entries =
-    let reads = entries_are bytes contents e ∙ own.read in
-    let t = entries-whole.takes bytes own.values octets reads in
-    let same : items_of entry_at contents ≡ own.values =
-    ap (λ (o : Option (List ContentConstraint)). unwrap_or o []) own.read in
-    let valid : AreConstraints own.values = record {
-      some = entries_some own.values t.0.0.1;
+    let these = items_of entry_at contents in
+    let reads = entries_are bytes contents e ∙ own.items in
+    let t = entries-whole.takes bytes these octets reads in
+    let valid : AreConstraints these = record {
+      some = entries_some these t.0.0.1;
       each = t.0.0.0;
-      contents = own.distinct;
-      attributes = own.each;
+      contents = own.contents;
+      attributes = own.types;
       fits = t.0.1;
     } in (
       λ is. subst (λ (all : List ContentConstraint). AreConstraints all × (bytes ≡ constraints_text all))
-          (sym same ∙ some_is (items_of entry_at contents) entries is) (valid, t.1),
-      λ h. ap (λ (all : List ContentConstraint). Some all) same ∙ sym reads ∙ ap entries_of h.1 ∙ again entries h.0,
+          (some_is these entries is) (valid, t.1),
+      λ h. sym reads ∙ ap entries_of h.1 ∙ again entries h.0,
     )
 
 pub reads_none : (bytes contents : List ℕ) → list_of bytes ≡ Some contents → (HaveOwnContents contents → ⊥)
     → Reads constraints_text AreConstraints bytes None
 reads_none bytes contents e never entries = (
   λ is. absurd (none-some entries is),
-  λ h. absurd (never (record {
-    values = entries;
-    read = sym (entries_are bytes contents e) ∙ ap entries_of h.1 ∙ again entries h.0;
-    distinct = h.0.contents;
-    each = h.0.attributes;
-  })),
+  λ h.
+      let reads : listed entry_at contents ≡ Some entries =
+      sym (entries_are bytes contents e) ∙ ap entries_of h.1 ∙ again entries h.0 in
+      let same : entries ≡ items_of entry_at contents = sym (is_items entry_at contents entries reads) in
+      absurd (never (record {
+        items = reads ∙ ap (λ (all : List ContentConstraint). Some all) same;
+        contents = subst (λ (all : List ContentConstraint). IsDistinct bytes_eq (map (λ o. o.content) all)) same h.0.contents;
+        types = subst (AllByRecursion HasOwnTypes) same h.0.attributes;
+      })),
 )
 
 entries_none : (bytes : List ℕ) → list_of bytes ≡ None → entries_of bytes ≡ None
@@ -412,3 +411,42 @@ reads_no_list bytes e entries = (
 pub one_constraints_text : (these those : List ContentConstraint) → AreConstraints these → AreConstraints those
     → constraints_text these ≡ constraints_text those → these ≡ those
 one_constraints_text these those h k e = some_is these those (sym (again these h) ∙ ap entries_of e ∙ again those k)
+
+-- ---- what is left to be passed
+
+pub entries_left : (octets : List ℕ) → AreOctets octets → AreItems entry_at octets
+    → AllByRecursion IsEntry (items_of entry_at octets) × (octets ≡ flat_map entry_text (items_of entry_at octets))
+entries_left octets are read =
+    (listed-whole (λ e h. enc_some 0x30 (entry_contents e)) entry_falls entry-front).takes octets
+    (items_of entry_at octets) are read
+
+pub attributes_remain : (octets : List ℕ) → AreOctets octets → AreItems constrained_at octets
+    → AllByRecursion IsConstrained (items_of constrained_at octets)
+    × (octets ≡ flat_map attribute_text (items_of constrained_at octets))
+attributes_remain octets are read =
+    (listed-whole (λ a h. enc_some 0x30 (attribute_contents a)) constrained_falls constrained-front).takes octets
+    (items_of constrained_at octets) are read
+
+-- octets that are a text of constraints are kept as them
+pub kept_are : (text contents : List ℕ) (entries : List ContentConstraint) → AreOctets text → AreConstraints entries
+    → text ≡ constraints_text entries → list_of text ≡ Some contents
+    → HaveOwnContents contents × (items_of entry_at contents ≡ kept_constraints text)
+kept_are text contents entries octets are is e =
+    let reads : listed entry_at contents ≡ Some entries =
+    sym (entries_are text contents e) ∙ ap entries_of is ∙ again entries are in
+    let same : entries ≡ items_of entry_at contents = sym (is_items entry_at contents entries reads) in (
+      record {
+        items = reads ∙ ap (λ (all : List ContentConstraint). Some all) same;
+        contents = subst (λ (all : List ContentConstraint). IsDistinct bytes_eq (map (λ o. o.content) all)) same are.contents;
+        types = subst (AllByRecursion HasOwnTypes) same are.attributes;
+      },
+      ap (λ (o : Option (List ContentConstraint)). unwrap_or o []) (sym (entries_are text contents e)),
+    )
+
+pub kept_is_list : (text : List ℕ) (entries : List ContentConstraint) → AreConstraints entries
+    → text ≡ constraints_text entries → list_of text ≡ None → ⊥
+kept_is_list text entries are is e = none-some entries (sym (entries_none text e) ∙ ap entries_of is ∙ again entries are)
+
+pub kept_constraints_text : (entries : List ContentConstraint) → AreConstraints entries
+    → kept_constraints (constraints_text entries) ≡ entries
+kept_constraints_text entries are = ap (λ (o : Option (List ContentConstraint)). unwrap_or o []) (again entries are)

@@ -1,3 +1,5 @@
+pub mod AllWhere
+pub mod AnchorLaws
 pub mod CertificateLaws
 pub mod ConstraintLaws
-pub mod OwnKeys
+pub mod ExtensionLaws

@@ -1,18 +1,19 @@
 -- The reading of content constraints, by the shapes of their text.
-use Rattle.std.specs.Prelude.{◌≡◌, ℕ, ◌==◌, Bool, true, false, List, [], ◌∷◌, length, map, bytes_eq, Some, None}
+use Rattle.std.specs.Prelude.{ℕ, ◌==◌, Bool, true, false, List, [], ◌∷◌, length, map, bytes_eq, Some, None}
 use Rattle.std.specs.Prelude.{if◌then◌else◌, not}
 use Rattle.std.specs.List.{AllByRecursion, IsDistinct}
 use Rattle.std.specs.Option.{unwrap_or}
 use Rattle.der_core.specs.Attribute.{Attribute}
 use Rattle.der_core.specs.AttributeReading.{attribute_of}
-use Rattle.der_core.specs.Reading.{◌>>?◌, tagged_of, oid_of}
+use Rattle.der_core.specs.Reading.{◌>>?◌, oid_of}
 use Rattle.der_core.specs.Shapes.{Front, Whole, element, alone, before, optional, mapped, tested, listed, any_element}
-use Rattle.der_core.specs.Shapes.{defaulted, kept, anything}
-use Rattle.cert_fields.specs.Constraints.{ContentConstraint, is_source}
+use Rattle.der_core.specs.Shapes.{defaulted, anything}
+use Rattle.attribute_set.specs.Items.{items_of, AreItems}
+use Rattle.cert_fields.specs.Constraints.{ContentConstraint, is_source, HasOwnTypes}
 
--- the octets of an identifier at the front
+-- an identifier at the front
 unfoldable pub type_at : Front (List ℕ)
-type_at = element 0x06 (kept oid_of)
+type_at = element 0x06 oid_of
 
 -- whether canSource is said, by the number of the ENUMERATED
 unfoldable pub source_of : Whole Bool
@@ -61,14 +62,8 @@ entry_at = element 0x30 entry_of
 unfoldable pub entries_of : Whole (List ContentConstraint)
 entries_of = alone (element 0x30 (some_octets (listed entry_at)))
 
--- values that are read one after the other, each with a key of its own
-pub record HaveOwnKeys {V : Type 0} (front : Front V) (key : V → List ℕ) (Holds : V → Type 0) (octets : List ℕ)
-    : Type 0 where
-  pub values : List V
-  pub read : listed front octets ≡ Some values
-  pub distinct : IsDistinct bytes_eq (map key values)
-  pub each : AllByRecursion Holds values
-
--- the octets of the type of the attribute that octets are
-unfoldable pub kind_of : Whole (List ℕ)
-kind_of octets = tagged_of 0x30 octets >>? λ x. tagged_of 0x06 x.0 >>? λ y. Some y.0
+-- octets that are entries, one after the other, of which no content type stands twice, nor an attribute type in one
+pub record HaveOwnContents (octets : List ℕ) : Type 0 where
+  pub items : AreItems entry_at octets
+  pub contents : IsDistinct bytes_eq (map (λ e. e.content) (items_of entry_at octets))
+  pub types : AllByRecursion HasOwnTypes (items_of entry_at octets)

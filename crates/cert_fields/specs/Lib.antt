@@ -1,6 +1,15 @@
+pub mod Algorithms
+pub mod Anchor
+pub mod AnchorView
 pub mod Certificate
 pub mod CertificateReading
 pub mod Constraints
 pub mod ConstraintsReading
 pub mod ConstraintsView
+pub mod ExtensionTypes
+pub mod Extensions
+pub mod ExtensionsReading
+pub mod ExtensionsView
+pub mod KeptCertificate
 pub mod View
+pub mod Sid

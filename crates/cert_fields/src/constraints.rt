@@ -1,18 +1,24 @@
 // Content constraints.
-ghost use Rattle.std.specs.Prelude.{◌≡◌, ◌↔◌, IsTrue, IfOk, IfSome, is_some};
+ghost use Rattle.std.specs.Prelude.{◌≡◌, ◌↔◌, IsTrue, IfOk, IfSome, is_some, map, bytes_eq, Some, List};
+ghost use Rattle.std.specs.List.{AllByRecursion, IsDistinct, flat_map};
+ghost use Rattle.der_core.specs.Element.{HasRoom};
 ghost use Rattle.der_core.specs.Reads.{Reads, Answers};
 ghost use Rattle.der_core.specs.AttributeReading.{attribute_of};
 ghost use Rattle.der_core.specs.Shapes.{listed, tested};
+ghost use Rattle.der_core.specs.AttributeView.{attribute_view};
 ghost use Rattle.attribute_set.specs.Items.{items_of, AreItems};
-ghost use Rattle.cert_fields.specs.Constraints.{constraints_text, AreConstraints, HasOwnTypes};
+ghost use Rattle.cert_fields.specs.Constraints.{ContentConstraint, constraints_text, entry_text, AreConstraints, HasOwnTypes};
+ghost use Rattle.cert_fields.specs.AnchorView.{kept_constraints};
 ghost use Rattle.cert_fields.specs.ConstraintsReading.{type_at, source_at, has_values, constrained_at};
 ghost use Rattle.cert_fields.specs.ConstraintsReading.{list_of, attributes_list_of, attributes_of};
-ghost use Rattle.cert_fields.specs.ConstraintsReading.{entry_of, entry_at, kind_of, HaveOwnKeys};
-ghost use Rattle.cert_fields.specs.ConstraintsView.{constrained_view, entry_view};
+ghost use Rattle.cert_fields.specs.ConstraintsReading.{entry_of, entry_at, HaveOwnContents};
+ghost use Rattle.cert_fields.specs.ConstraintsView.{entry_view};
 
-use der_core::{Cursor, read_attr, read_oid, tags};
+use crate::entries::entries_text;
+use crate::{AttrConstraints, CccEntry, Entries};
+use attribute_set::have_own_types;
+use der_core::{Attr, Cursor, Oid, read_attr, read_oid, tags};
 use std::alloc::{AllocError, Global};
-use std::collections::BTreeSet;
 use std::marker::Model;
 
 /// Content constraints in their order (RFC 6010, section 3). They stay in place in their octets, and
@@ -21,44 +27,55 @@ use std::marker::Model;
 pub struct Ccc<'a> {
     // The contents of the SEQUENCE.
     octets: &'a [u8],
+    ghost fits: { HasRoom octets.now },
 }
 
 impl<'a> Model for Ccc<'a> {
     ghost use Rattle.std.specs.Prelude.{List};
     ghost use Rattle.attribute_set.specs.Items.{items_of};
-    ghost use Rattle.cert_fields.specs.Constraints.{ContentConstraint, HasOwnTypes};
-    ghost use Rattle.cert_fields.specs.ConstraintsReading.{entry_at, HaveOwnKeys};
+    ghost use Rattle.cert_fields.specs.Constraints.{ContentConstraint};
+    ghost use Rattle.cert_fields.specs.ConstraintsReading.{entry_at, HaveOwnContents};
 
     ghost Value = { List ContentConstraint };
 
     ghost view = { λ c. items_of entry_at c.octets.now };
 
-    ghost invariant = { λ c. HaveOwnKeys entry_at (λ e. e.content) HasOwnTypes c.octets.now };
+    ghost invariant = { λ c. HaveOwnContents c.octets.now };
 }
 
-// A constrained attribute: the octets of its type, and its values.
-#[derive(Clone, Copy)]
-struct Constrained<'a> {
-    kind: &'a [u8],
-    values: &'a [u8],
+impl<'a> Ccc<'a> {
+    /// The entries, to go through.
+    pub fn entries(&self) -> Entries<'a>
+        ensures same { result ≡ self.now }
+
+        // no content type stands twice, nor an attribute type in one entry
+        ensures contents { IsDistinct bytes_eq (map (λ e. e.content) self.now) }
+        ensures types { AllByRecursion HasOwnTypes self.now }
+
+        // their texts together are shorter than 2^32
+        ensures fits { HasRoom (flat_map entry_text self.now) }
+    {
+        Entries {
+            octets: entries_text(self.octets),
+        }
+    }
+
+    /// The same constraints once more. Takes no memory.
+    pub fn again(&self) -> Ccc<'a>
+        ensures same { result ≡ self.now }
+    {
+        Ccc {
+            octets: self.octets,
+        }
+    }
 }
 
-// An entry: the octets of its content type, and its constrained attributes, one after the other.
-#[derive(Clone, Copy)]
-struct Entry<'a> {
-    content: &'a [u8],
-    can_source: bool,
-    attributes: &'a [u8],
-}
-
-// The octets of the identifier at the front.
+// The identifier at the front.
 #[tactic(auto, unfolding(crate::specs::ConstraintsReading::type_at))]
-fn read_type<'a>(items: &mut Cursor<'a>) -> Option<&'a [u8]>
-    ensures { Answers (λ kind. (kind.now, items.new)) result (type_at items.old) }
+pub(crate) fn read_type(items: &mut Cursor<'_>) -> Option<Oid>
+    ensures exact { Answers (λ kind. (kind, items.new)) result (type_at items.old) }
 {
-    let kind = items.tagged(tags::OBJECT_IDENTIFIER)?;
-    read_oid(kind)?;
-    Some(kind)
+    read_oid(items.tagged(tags::OBJECT_IDENTIFIER)?)
 }
 
 // Whether canSource is said at the front.
@@ -73,18 +90,9 @@ fn read_source(items: &mut Cursor<'_>) -> Option<bool>
     }
 }
 
-// The type of the attribute that octets are.
-#[tactic(auto, unfolding(crate::specs::ConstraintsReading::kind_of))]
-fn kind_in(octets: &[u8]) -> Option<&[u8]>
-    ensures { Answers (λ kind. kind.now) result (kind_of octets.now) }
-{
-    let mut parts = Cursor::new(Cursor::new(octets).tagged(tags::SEQUENCE)?);
-    parts.tagged(tags::OBJECT_IDENTIFIER)
-}
-
 // The constrained attribute that octets are.
-fn constrained_in(octets: &[u8]) -> Option<Constrained<'_>>
-    ensures exact { Answers constrained_view result (tested has_values attribute_of octets.now) }
+fn constrained_in(octets: &[u8]) -> Option<Attr<'_>>
+    ensures exact { Answers attribute_view result (tested has_values attribute_of octets.now) }
 {
     let Some(attribute) = read_attr(octets) else {
         return None;
@@ -92,17 +100,13 @@ fn constrained_in(octets: &[u8]) -> Option<Constrained<'_>>
     if attribute.values.is_empty() {
         return None;
     }
-    let kind = kind_in(octets)?;
-    Some(Constrained {
-        kind,
-        values: attribute.values,
-    })
+    Some(attribute)
 }
 
 // The constrained attribute at the front.
 #[tactic(auto, unfolding(crate::specs::ConstraintsReading::constrained_at))]
-fn read_constrained<'a>(items: &mut Cursor<'a>) -> Option<Constrained<'a>>
-    ensures exact { Answers (λ a. (constrained_view a, items.new)) result
+pub(crate) fn read_constrained<'a>(items: &mut Cursor<'a>) -> Option<Attr<'a>>
+    ensures exact { Answers (λ a. (attribute_view a, items.new)) result
         (constrained_at items.old) }
 {
     let (_, _, octets) = items.next()?;
@@ -129,6 +133,7 @@ fn are_constrained(contents: &[u8]) -> bool
 #[tactic(auto, unfolding(crate::specs::ConstraintsReading::list_of))]
 fn list_in<'a>(rest: &mut Cursor<'a>) -> Option<&'a [u8]>
     ensures exact { Answers (λ contents. contents.now) result (list_of rest.old) }
+    ensures fits { IfSome result (λ contents. HasRoom contents.now) }
 {
     let contents = rest.tagged(tags::SEQUENCE)?;
     if contents.is_empty() || !rest.at_end() {
@@ -138,38 +143,40 @@ fn list_in<'a>(rest: &mut Cursor<'a>) -> Option<&'a [u8]>
 }
 
 // The constrained attributes that are left, in a SEQUENCE.
-fn read_attributes_list<'a>(rest: &mut Cursor<'a>) -> Option<&'a [u8]>
-    ensures exact { Answers (λ a. items_of constrained_at a.now) result
-        (attributes_list_of rest.old) }
-    ensures items { IfSome result (λ a. AreItems constrained_at a.now) }
+fn read_attributes_list<'a>(rest: &mut Cursor<'a>) -> Option<AttrConstraints<'a>>
+    ensures exact { Answers (λ a. a) result (attributes_list_of rest.old) }
 {
-    let contents = list_in(rest)?;
-    if are_constrained(contents) {
-        Some(contents)
+    let Some(octets) = list_in(rest) else {
+        return None;
+    };
+    if are_constrained(octets) {
+        Some(AttrConstraints { octets })
     } else {
         None
     }
 }
 
 // The constrained attributes, where any octets are left.
-fn read_attributes<'a>(rest: &mut Cursor<'a>) -> Option<&'a [u8]>
-    ensures exact { Answers (λ a. items_of constrained_at a.now) result (attributes_of rest.old) }
-    ensures items { IfSome result (λ a. AreItems constrained_at a.now) }
+fn read_attributes<'a>(rest: &mut Cursor<'a>) -> Option<AttrConstraints<'a>>
+    ensures exact { Answers (λ a. a) result (attributes_of rest.old) }
 {
     if rest.at_end() {
-        return Some(rest.rest());
+        return Some(AttrConstraints {
+            octets: rest.rest(),
+        });
     }
     read_attributes_list(rest)
 }
 
-// The parts of the entry that octets are.
+// The entry that octets are.
 #[tactic(auto, unfolding(crate::specs::ConstraintsReading::entry_of))]
-fn read_parts(contents: &[u8]) -> Option<Entry<'_>>
+fn read_parts(contents: &[u8]) -> Option<CccEntry<'_>>
     ensures exact { Answers entry_view result (entry_of contents.now) }
-    ensures items { IfSome result (λ e. AreItems constrained_at e.attributes.now) }
 {
     let mut parts = Cursor::new(contents);
-    let content = read_type(&mut parts)?;
+    let Some(content) = read_type(&mut parts) else {
+        return None;
+    };
     let mut can_source = true;
     if parts.is_at(tags::ENUMERATED) {
         can_source = read_source(&mut parts)?;
@@ -177,8 +184,10 @@ fn read_parts(contents: &[u8]) -> Option<Entry<'_>>
             return None;
         }
     }
-    let attributes = read_attributes(&mut parts)?;
-    Some(Entry {
+    let Some(attributes) = read_attributes(&mut parts) else {
+        return None;
+    };
+    Some(CccEntry {
         content,
         can_source,
         attributes,
@@ -187,9 +196,8 @@ fn read_parts(contents: &[u8]) -> Option<Entry<'_>>
 
 // The entry at the front.
 #[tactic(auto, unfolding(crate::specs::ConstraintsReading::entry_at))]
-fn read_entry<'a>(items: &mut Cursor<'a>) -> Option<Entry<'a>>
+pub(crate) fn read_entry<'a>(items: &mut Cursor<'a>) -> Option<CccEntry<'a>>
     ensures exact { Answers (λ e. (entry_view e, items.new)) result (entry_at items.old) }
-    ensures items { IfSome result (λ e. AreItems constrained_at e.attributes.now) }
 {
     let contents = items.tagged(tags::SEQUENCE)?;
     match read_parts(contents) {
@@ -198,18 +206,37 @@ fn read_entry<'a>(items: &mut Cursor<'a>) -> Option<Entry<'a>>
     }
 }
 
-// Whether the octets are constrained attributes of which no type stands twice.
-fn have_own_types(alloc: Global, attributes: &[u8]) -> Result<bool, AllocError>
-    ensures { IfOk result (λ own. IsTrue own
-        ↔ HaveOwnKeys constrained_at (λ a. a.kind) (λ _. Unit {0}) attributes.now) }
+// Whether the octets are entries, one after the other, of which types may stand twice.
+fn are_entries(contents: &[u8]) -> bool
+    ensures { result ≡ is_some (listed entry_at contents.now) }
 {
-    let mut kinds = BTreeSet::new(alloc);
-    let mut items = Cursor::new(attributes);
+    let mut items = Cursor::new(contents);
     while !items.at_end() {
-        let Some(attribute) = read_constrained(&mut items) else {
-            return Ok(false);
+        let Some(_) = read_entry(&mut items) else {
+            return false;
         };
-        if !kinds.insert(attribute.kind)? {
+    }
+    true
+}
+
+// Whether no type of the constrained attributes stands twice.
+fn have_own_kinds(alloc: Global, attributes: &[u8]) -> Result<bool, AllocError>
+    requires { AreItems constrained_at attributes.now }
+    ensures { IfOk result (λ own. IsTrue own
+        ↔ IsDistinct bytes_eq (map (λ a. a.kind) (items_of constrained_at attributes.now))) }
+{
+    have_own_types(alloc, attributes)
+}
+
+// Whether no attribute type stands twice in one of the entries.
+fn have_own_attributes(alloc: Global, entries: &[u8]) -> Result<bool, AllocError>
+    requires { AreItems entry_at entries.now }
+    ensures { IfOk result (λ own. IsTrue own
+        ↔ AllByRecursion HasOwnTypes (items_of entry_at entries.now)) }
+{
+    let mut left = Entries { octets: entries };
+    while let Some(entry) = left.next() {
+        if !have_own_kinds(alloc, entry.attributes.octets())? {
             return Ok(false);
         }
     }
@@ -219,27 +246,18 @@ fn have_own_types(alloc: Global, attributes: &[u8]) -> Result<bool, AllocError>
 // Whether the octets are entries of which no content type stands twice, nor an attribute type in
 // one.
 fn have_own_contents(alloc: Global, entries: &[u8]) -> Result<bool, AllocError>
-    ensures { IfOk result (λ own. IsTrue own
-        ↔ HaveOwnKeys entry_at (λ e. e.content) HasOwnTypes entries.now) }
+    ensures { IfOk result (λ own. IsTrue own ↔ HaveOwnContents entries.now) }
 {
-    let mut contents = BTreeSet::new(alloc);
-    let mut items = Cursor::new(entries);
-    while !items.at_end() {
-        let Some(entry) = read_entry(&mut items) else {
-            return Ok(false);
-        };
-        if !contents.insert(entry.content)? {
-            return Ok(false);
-        }
-        if !have_own_types(alloc, entry.attributes)? {
-            return Ok(false);
-        }
+    if are_entries(entries) && have_own_types(alloc, entries)? {
+        have_own_attributes(alloc, entries)
+    } else {
+        Ok(false)
     }
-    Ok(true)
 }
 
 /// The content constraints whose text the octets are, all of them (RFC 6010, section 3). It takes
-/// memory to see that no type stands twice, and gives it back.
+/// memory to see that no type stands twice, 8 octets for each entry or each constrained attribute of
+/// one, and gives it back.
 pub fn read_ccc(alloc: Global, bytes: &[u8]) -> Result<Option<Ccc<'_>>, AllocError>
     ensures spelled { IfOk result (λ answer. Reads constraints_text AreConstraints bytes.now answer) }
 {
@@ -250,5 +268,17 @@ pub fn read_ccc(alloc: Global, bytes: &[u8]) -> Result<Option<Ccc<'_>>, AllocErr
         Ok(Some(Ccc { octets }))
     } else {
         Ok(None)
+    }
+}
+
+// The content constraints whose text the octets are, where it is known that they are one.
+pub(crate) fn ccc_of(text: &[u8]) -> Option<Ccc<'_>>
+    requires { (entries : List ContentConstraint)
+        × AreConstraints entries × (text.now ≡ constraints_text entries) }
+    ensures { result ≡ Some (kept_constraints text.now) }
+{
+    match list_in(&mut Cursor::new(text)) {
+        Some(octets) => Some(Ccc { octets }),
+        None => None,
     }
 }

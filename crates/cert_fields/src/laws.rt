@@ -4,6 +4,8 @@ ghost use Rattle.cert_fields.specs.Certificate.{Certificate, IsCertificate, cert
 ghost use Rattle.cert_fields.specs.CertificateReading.{certificate_of};
 ghost use Rattle.cert_fields.specs.Constraints.{ContentConstraint, AreConstraints};
 ghost use Rattle.cert_fields.specs.Constraints.{constraints_text};
+ghost use Rattle.cert_fields.specs.Extensions.{HasExtensions};
+ghost use Rattle.cert_fields.specs.declared.extensions.Extensions.{Extensions};
 ghost use Rattle.std.specs.Prelude.{List};
 
 /// A law: two certificates never share a text, and a text is read as its own certificate.
@@ -18,4 +20,10 @@ pub fn one_certificate_text()
 pub fn one_constraints_text()
     ensures unique { (these those : List ContentConstraint) → AreConstraints these
         → AreConstraints those → constraints_text these ≡ constraints_text those → these ≡ those }
+{}
+
+/// A law: the extensions of a certificate read in one way at most.
+pub fn one_reading_of_extensions()
+    ensures unique { (c : Certificate) (these those : Extensions) → HasExtensions c these
+        → HasExtensions c those → these ≡ those }
 {}
