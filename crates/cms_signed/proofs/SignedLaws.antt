@@ -54,7 +54,7 @@ one_element-whole = record { takes = takes; again = again }
         ap front_of (is ∙ sym (append-nil (enc tag contents))) ∙ front_of-enc tag contents [] h in
         rw found refl
 
-info-whole : IsWhole (λ i. info_text (info_made i)) (λ i. IsInfo (info_made i)) info_of
+pub info-whole : IsWhole (λ i. info_text (info_made i)) (λ i. IsInfo (info_made i)) info_of
 unfolding info_of
 info-whole =
     alone-whole (sized-element-front 0x30 (is_tag 0x30 refl)
@@ -76,7 +76,7 @@ fields-whole =
     (maybe_before-whole 0xA1 (λ v h. enc-begins 0xA1 v) (λ w h. rw (enc-begins 0x31 w).1 refl)
     (raw-front 0xA1 (is_tag 0xA1 refl)) (alone-whole (raw-front 0x31 (is_tag 0x31 refl))))
 
-tail-whole : IsWhole tail_text IsTail tail_of
+pub tail-whole : IsWhole tail_text IsTail tail_of
 unfolding tail_of
 tail-whole =
     mapped-whole tail_made (λ v h. (h, refl)) (λ w h. ((w.certificates, (w.crls, w.signer_infos)), h, refl))
@@ -86,7 +86,7 @@ version-whole : IsWhole number_contents (λ n. (n < 2 ^ 128) × IsTrue (is_versi
 unfolding version_of
 version-whole = tested-whole is_version number-whole
 
-signed-whole : IsWhole (λ s. signed_text (signed_made s))
+pub signed-whole : IsWhole (λ s. signed_text (signed_made s))
     (λ s. IsSigned (signed_made s) × HasRoom (signed_contents (signed_made s))) signed_of
 unfolding signed_of
 signed-whole =
@@ -95,7 +95,7 @@ signed-whole =
     (before-whole (raw-front 0x31 (is_tag 0x31 refl))
     (before-whole (raw-front 0x30 (is_tag 0x30 refl)) (kept-whole tail-whole)))))
 
-encapsulated-whole : IsWhole (λ e. encapsulated_contents (encapsulated_made e)) (λ e. IsEncapsulated (encapsulated_made e))
+pub encapsulated-whole : IsWhole (λ e. encapsulated_contents (encapsulated_made e)) (λ e. IsEncapsulated (encapsulated_made e))
     encapsulated_of
 unfolding encapsulated_of
 encapsulated-whole =
@@ -106,57 +106,57 @@ encapsulated-whole =
 -- ---- what was read is the only value
 
 -- of a value that was read
-known : {V : Type 0} {text : V → List ℕ} {IsValid : V → Type 0} {read : Whole V} (laws : IsWhole text IsValid read)
+pub known : {V : Type 0} {text : V → List ℕ} {IsValid : V → Type 0} {read : Whole V} (laws : IsWhole text IsValid read)
     (bytes : List ℕ) (v w : V) → read bytes ≡ Some v → IsValid w → bytes ≡ text w → w ≡ v
 known {V} {text} {IsValid} {read} laws bytes v w is valid e =
     some_is w v (sym (laws.again w valid) ∙ ap read (sym e) ∙ is)
 
-unread : {V : Type 0} {text : V → List ℕ} {IsValid : V → Type 0} {read : Whole V} (laws : IsWhole text IsValid read)
+pub unread : {V : Type 0} {text : V → List ℕ} {IsValid : V → Type 0} {read : Whole V} (laws : IsWhole text IsValid read)
     (bytes : List ℕ) (w : V) → read bytes ≡ None → IsValid w → bytes ≡ text w → ⊥
 unread {V} {text} {IsValid} {read} laws bytes w is valid e =
     let wrong : ◌≡◌ {A = Option V} (Some w) None = sym (laws.again w valid) ∙ ap read (sym e) ∙ is in absurd cc
 
 -- what is read of values
-abbrev InfoRead : Type 0
+abbrev pub InfoRead : Type 0
 InfoRead = List ℕ × List ℕ
 
-abbrev SignedRead : Type 0
+abbrev pub SignedRead : Type 0
 SignedRead = ℕ × (List ℕ × (List ℕ × List ℕ))
 
-abbrev EncapsulatedRead : Type 0
+abbrev pub EncapsulatedRead : Type 0
 EncapsulatedRead = List ℕ × Option (List ℕ)
 
-abbrev info_parts : ContentInfo → InfoRead
+abbrev pub info_parts : ContentInfo → InfoRead
 info_parts i = (i.content_type, i.content)
 
-abbrev signed_parts : SignedData → SignedRead
+abbrev pub signed_parts : SignedData → SignedRead
 signed_parts s = (s.version, (s.digest_algorithms, (s.encapsulated, s.tail)))
 
-abbrev encapsulated_parts : EncapsulatedContentInfo → EncapsulatedRead
+abbrev pub encapsulated_parts : EncapsulatedContentInfo → EncapsulatedRead
 encapsulated_parts e = (e.content_type, e.content)
 
 -- what is known where the ContentInfo, the SignedData and encapContentInfo were read
-record InfoIs (item : List ℕ) (i : InfoRead) : Type 0 where
-  is : info_of item ≡ Some i
-  valid : IsInfo (info_made i)
-  text : item ≡ info_text (info_made i)
+pub record InfoIs (item : List ℕ) (i : InfoRead) : Type 0 where
+  pub is : info_of item ≡ Some i
+  pub valid : IsInfo (info_made i)
+  pub text : item ≡ info_text (info_made i)
 
-record SignedIs (item : List ℕ) (i : InfoRead) (s : SignedRead) : Type 0 where
-  info : InfoIs item i
-  is : signed_of i.1 ≡ Some s
-  valid : IsSigned (signed_made s) × HasRoom (signed_contents (signed_made s))
-  text : i.1 ≡ signed_text (signed_made s)
+pub record SignedIs (item : List ℕ) (i : InfoRead) (s : SignedRead) : Type 0 where
+  pub info : InfoIs item i
+  pub is : signed_of i.1 ≡ Some s
+  pub valid : IsSigned (signed_made s) × HasRoom (signed_contents (signed_made s))
+  pub text : i.1 ≡ signed_text (signed_made s)
 
-record EncapsulatedIs (item : List ℕ) (i : InfoRead) (s : SignedRead) (e : EncapsulatedRead) : Type 0 where
-  signed : SignedIs item i s
-  is : encapsulated_of s.1.1.0 ≡ Some e
-  valid : IsEncapsulated (encapsulated_made e)
-  text : s.1.1.0 ≡ encapsulated_contents (encapsulated_made e)
+pub record EncapsulatedIs (item : List ℕ) (i : InfoRead) (s : SignedRead) (e : EncapsulatedRead) : Type 0 where
+  pub signed : SignedIs item i s
+  pub is : encapsulated_of s.1.1.0 ≡ Some e
+  pub valid : IsEncapsulated (encapsulated_made e)
+  pub text : s.1.1.0 ≡ encapsulated_contents (encapsulated_made e)
 
 info_has : (item : List ℕ) (i : InfoRead) (P : ContentInfo → Type 0) → InfoIs item i → P (info_made i) → HasInfo item P
 info_has item i P k p = (info_made i, k.valid, k.text, p)
 
-info_at : (item : List ℕ) (i : InfoRead) (P : ContentInfo → Type 0) → InfoIs item i → HasInfo item P → P (info_made i)
+pub info_at : (item : List ℕ) (i : InfoRead) (P : ContentInfo → Type 0) → InfoIs item i → HasInfo item P → P (info_made i)
 info_at item i P k (j, valid, text, p) =
     subst (λ (x : InfoRead). P (info_made x)) (known info-whole item i (info_parts j) k.is valid text) p
 
@@ -177,7 +177,7 @@ encapsulated_has : (item : List ℕ) (i : InfoRead) (s : SignedRead) (e : Encaps
     → P (signed_made s) (encapsulated_made e) → HasEncapsulated item P
 encapsulated_has item i s e P k p = signed_has item i s _ k.signed (encapsulated_made e, k.valid, k.text, p)
 
-encapsulated_at : (item : List ℕ) (i : InfoRead) (s : SignedRead) (e : EncapsulatedRead)
+pub encapsulated_at : (item : List ℕ) (i : InfoRead) (s : SignedRead) (e : EncapsulatedRead)
     (P : SignedData → EncapsulatedContentInfo → Type 0) → EncapsulatedIs item i s e → HasEncapsulated item P
     → P (signed_made s) (encapsulated_made e)
 encapsulated_at item i s e P k h =
@@ -433,7 +433,7 @@ outer_law kind item octets = three (info_of item) refl
 -- ---- what follows
 
 -- what an item's content and tail are found in
-outer_is : (item content tail : List ℕ) (o : IsOuter item content tail) → EncapsulatedIs item (info_parts o.0) (signed_parts o.3.0) (encapsulated_parts o.3.3.0)
+pub outer_is : (item content tail : List ℕ) (o : IsOuter item content tail) → EncapsulatedIs item (info_parts o.0) (signed_parts o.3.0) (encapsulated_parts o.3.3.0)
 outer_is item content tail (i, valid-i, text-i, (s, valid-s, text-s, (e, valid-e, text-e, found))) = record {
   signed = record {
     info = record { is = ap info_of text-i ∙ info-whole.again (info_parts i) valid-i; valid = valid-i; text = text-i };
@@ -452,7 +452,7 @@ tail_to item content tail P o p =
     encapsulated_has item (info_parts o.0) (signed_parts o.3.0) (encapsulated_parts o.3.3.0) (λ s e. P s.tail) (outer_is item content tail o)
     (subst P (sym o.3.3.3.1) p)
 
-tail_from : (item content tail : List ℕ) (P : List ℕ → Type 0) → IsOuter item content tail
+pub tail_from : (item content tail : List ℕ) (P : List ℕ → Type 0) → IsOuter item content tail
     → HasEncapsulated item (λ s e. P s.tail) → P tail
 tail_from item content tail P o h =
     subst P o.3.3.3.1

@@ -6,4 +6,10 @@ pub mod Signed
 pub mod SignedReading
 pub mod SignedView
 pub mod Answer
+pub mod Certificates
+pub mod Signer
+pub mod SignerReading
 pub mod Tail
+pub mod Message
+pub mod SignedAnswer
+pub mod SignerKnown

@@ -9,9 +9,11 @@ ghost use Rattle.der_core.specs.Items.{IsSequence};
 ghost use Rattle.der_core.specs.LeafReading.{integer_of};
 ghost use Rattle.cms_signed.specs.Answer.{put_in, FitsCut};
 ghost use Rattle.cms_signed.specs.Cut.{HasCut};
+ghost use Rattle.cms_signed.specs.Message.{Message, IsMessage, message_text};
 ghost use Rattle.cms_signed.specs.Outline.{Seen, Sees, content_of};
 ghost use Rattle.cms_signed.specs.Signed.{outer_conditions, IsOuter};
 ghost use Rattle.cms_signed.specs.Tail.{tail_conditions, on_tail, in_item};
+ghost use Rattle.cms_signed.specs.Tail.{signed_conditions};
 
 /// What the head of a content asks of the version is that it is the contents of an INTEGER.
 pub fn a_version_is_an_integer()
@@ -48,7 +50,7 @@ pub fn whole_item()
         × (put_in seen.frame seen.cut (content_of seen.cut item) ≡ item) }
 {}
 
-/// An outline's frame begins with the head that its cut says, as `read_outer_cut` asks.
+/// An outline's frame begins with the head that its cut says, as `read_signed_cut` asks.
 pub fn frame_has_cut()
     ensures { (seen : Seen) (place size : ℕ) (item : List ℕ)
         → seen.cut ≡ Some (place, size) → Sees seen item → HasCut seen.frame place size }
@@ -63,4 +65,16 @@ pub fn tail_goes_on()
         → AllHold (outer_conditions kind item ++ in_item tail_conditions item))
         × ((number : ℕ) → FirstFail (on_tail tail_conditions tail) number
         → FirstFail (outer_conditions kind item ++ in_item tail_conditions item) number) }
+{}
+
+/// Of an item the conditions 3 to 18 hold exactly where it is the text of signed data of one signer.
+pub fn accepted_items_are_messages()
+    ensures { (kind item : List ℕ) → AllHold (signed_conditions kind item)
+        ↔ ((m : Message) × IsMessage kind m × (item ≡ message_text m)) }
+{}
+
+/// An item is the text of one such value at most.
+pub fn one_message()
+    ensures { (kind other : List ℕ) (m n : Message) → IsMessage kind m → IsMessage other n
+        → message_text m ≡ message_text n → m ≡ n }
 {}

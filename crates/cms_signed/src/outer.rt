@@ -15,20 +15,20 @@ use der_core::Condition;
 // The most octets that may stand behind encapContentInfo.
 const MOST_BEHIND: usize = 1_048_576;
 
-/// What the octets around a content say, where the conditions 3 to 11 hold.
+// What the octets around a content say, where the conditions 3 to 11 hold.
 #[derive(Clone, Copy, Debug)]
-pub struct Outer<'a> {
-    /// The value octets of eContent (RFC 5652, section 5.2); none where the item was read without
-    /// its content.
+pub(crate) struct Outer<'a> {
+    // The value octets of eContent (RFC 5652, section 5.2); none where the item was read without its
+    // content.
     pub content: &'a [u8],
 
-    /// What stands behind encapContentInfo: certificates, crls and signerInfos (RFC 5652, section
-    /// 5.1), at most 2^20 octets.
+    // What stands behind encapContentInfo: certificates, crls and signerInfos (RFC 5652, section 5.1),
+    // at most 2^20 octets.
     pub tail: &'a [u8],
 }
 
 // The condition of a number that is one.
-fn condition(number: u8) -> Condition
+pub(crate) fn condition(number: u8) -> Condition
     requires { IsCondition number }
     ensures { result ≡ number }
 {
@@ -127,11 +127,11 @@ fn read_at<'a>(
     read_gapped(kind, gapped(frame, cut))
 }
 
-/// What stands around a content of this type, of each item that is the frame with a content of the
-/// cut's length put in at its place, or that is the frame, where there is no cut. Fails by the first
-/// of the conditions 3 to 11 that doesn't hold. `kind` is the contents of an identifier. Where there
-/// is a cut, the answer's `content` is empty.
-pub fn read_outer_cut<'a>(
+// What stands around a content of this type, of each item that is the frame with a content of the
+// cut's length put in at its place, or that is the frame, where there is no cut. Fails by the first of
+// the conditions 3 to 11 that doesn't hold. `kind` is the contents of an identifier. Where there is a
+// cut, the answer's `content` is empty.
+pub(crate) fn read_outer_cut<'a>(
     frame: &'a [u8],
     cut: Option<(usize, u32)>,
     kind: &[u8],
@@ -151,14 +151,4 @@ pub fn read_outer_cut<'a>(
         }),
         Err(condition) => Err(condition),
     }
-}
-
-/// What stands around a content of this type, of a whole item, with the content. Fails by the first
-/// of the conditions 3 to 11 that doesn't hold. `kind` is the contents of an identifier.
-pub fn read_outer<'a>(item: &'a [u8], kind: &[u8]) -> Result<Outer<'a>, Condition>
-    ensures answer { MatchResult result
-        (λ x. IsAnswer kind.now item.now x.content.now (Ok x.tail.now))
-        (λ n. IsAnswer kind.now item.now [] (Err n)) }
-{
-    read_outer_cut(item, None, kind)
 }
