@@ -1,0 +1,9 @@
+pub mod Chains
+pub mod PlaceLemmas
+pub mod KeyLemmas
+pub mod AllLemmas
+pub mod RuleLemmas
+pub mod HssLemmas
+pub mod MemberLemmas
+pub mod SignedLemmas
+pub mod PermitLemmas

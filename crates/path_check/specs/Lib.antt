@@ -1,0 +1,12 @@
+pub mod First
+pub mod Above
+pub mod Paths
+pub mod Places
+pub mod Keys
+pub mod Steps
+pub mod HssCertificate
+pub mod PathRules
+pub mod Conditions
+pub mod Members
+pub mod Checked
+pub mod Faults

@@ -1,0 +1,47 @@
+// HSS in certificates.
+ghost use Rattle.std.specs.Prelude.{◌≡◌, ◌↔◌, Some, IsTrue, bytes_eq};
+ghost use Rattle.cert_fields.specs.Algorithms.{signature_algorithm};
+ghost use Rattle.cert_fields.specs.View.{certificate_view};
+ghost use Rattle.hss_chain.specs.declared.key.HssKey.{HssKey};
+ghost use Rattle.path_check.specs.HssCertificate.{IsKeyOf, IsSignedBy};
+ghost use Rattle.path_check.specs.Members.{IsCertOfText};
+
+use cert_fields::Cert;
+use cert_fields::algorithms::HSS_LMS;
+use hss_chain::{HssKey, hss_check, hss_key};
+
+// The header of an OCTET STRING of 60 octets (X.690, section 8.7).
+const KEY_HEADER: &[u8] = b"\x04\x3c";
+
+// Whether an algorithm is HSS without parameters.
+#[tactic(auto, unfolding(der_core::specs::Element::enc, der_core::specs::Element::length_octets))]
+fn is_hss(algorithm: &[u8]) -> bool
+    ensures { result ≡ bytes_eq algorithm.now signature_algorithm }
+{
+    algorithm == HSS_LMS.as_slice()
+}
+
+// The HSS key of the certificate, as its octets or in an OCTET STRING.
+pub(crate) fn key_of(cert: &Cert<'_>) -> Option<HssKey>
+    ensures exact { (key : HssKey) → (result ≡ Some key) ↔ IsKeyOf (certificate_view cert.now) key }
+{
+    let bits = &cert.signed.key;
+    if !is_hss(cert.signed.key_algorithm) || bits.unused != 0 {
+        return None;
+    }
+    match bits.octets.strip_prefix(KEY_HEADER) {
+        Some(octets) => hss_key(octets),
+        None => hss_key(bits.octets),
+    }
+}
+
+// Whether the certificate is signed by the key.
+pub(crate) fn is_signed_by(key: &HssKey, cert: &Cert<'_>) -> bool
+    requires text { IsCertOfText cert.now }
+    ensures exact { IsTrue result ↔ IsSignedBy key.now (certificate_view cert.now) }
+{
+    is_hss(cert.signed.algorithm)
+        && is_hss(cert.algorithm)
+        && cert.signature.unused == 0
+        && hss_check(key, cert.tbs, &[], cert.signature.octets)
+}
