@@ -1,19 +1,10 @@
 #!/bin/bash
 # Times what content constraints of 100,000 listed values permit of an attribute of 100,000 values, with
-# the most memory that the process held. The program is built for it, on copies. It needs GNU time.
-set -euo pipefail
+# the most memory that the process held.
 cd "$(dirname "$0")/.."
-room=$(mktemp -d)
-trap 'rm -rf "$room"' EXIT
+. bench/built.sh
 
-mkdir -p "$room/crates/permit/src"
-for crate in attribute_set cert_fields constraint_meet der_core der_write package_attrs; do
-    mkdir "$room/crates/$crate"
-    cp -r crates/$crate/src crates/$crate/specs crates/$crate/proofs "$room/crates/$crate"
-    grep "^$crate:" crates.txt >>"$room/crates.txt"
-done
-echo 'permit: attribute_set cert_fields constraint_meet der_core' >>"$room/crates.txt"
-cat >"$room/crates/permit/src/main.rt" <<'RATTLE'
+build permit attribute_set cert_fields constraint_meet der_core <<'RATTLE'
 //! Asks what constraints of many listed values permit.
 #![tactic(auto)]
 
@@ -68,6 +59,4 @@ fn main(rt: HostRuntime) -> io::Result<()> {
     Ok(())
 }
 RATTLE
-(cd "$room/crates/permit" && rt run >"$room/run.txt" 2>&1) || { cat "$room/run.txt" >&2; exit 1; }
-/usr/bin/time -f '%e seconds, at most %M KiB' -o "$room/time" "$room/crates/permit/out/permit" >"$room/line"
-echo "100,000 values against 100,000 listed ones: $(cat "$room/line"), $(tail -n 1 "$room/time")"
+echo "100,000 values against 100,000 listed ones: $(timed)"
