@@ -109,7 +109,7 @@ fn hand_on<'a>(
 // Checks the members at these places under their anchor.
 fn check_under<'a>(
     alloc: Global,
-    certs: &[KeptCert<'a>],
+    certs: &'a [KeptCert<'a>],
     places: &[usize],
     anchor: &'a Anchor,
     anchor_key: &HssKey,
@@ -141,7 +141,7 @@ fn check_under<'a>(
 /// they permit.
 pub fn check_path<'a>(
     alloc: Global,
-    certs: &[KeptCert<'a>],
+    certs: &'a [KeptCert<'a>],
     anchors: &'a [Anchor],
     path: &Path,
     at: Moment,

@@ -7,8 +7,8 @@ ghost use Rattle.path_check.specs.Keys.{TellsKey};
 ghost use Rattle.path_check.specs.Paths.{PathPlaces, PathOf, LeadsTo};
 ghost use Rattle.path_check.specs.Steps.{TellsAbove, SaysNone};
 
-use crate::key_identifiers::{authority_key, subject_key};
 use crate::Path;
+use crate::key_identifiers::{authority_key, subject_key};
 use cert_fields::{Anchor, KeptCert, Sid};
 use der_core::Octets64;
 use std::alloc::{AllocError, Global};
@@ -158,7 +158,11 @@ fn first_above(
 }
 
 // The place of the first anchor above it.
-fn first_anchor_above(child: &KeptCert<'_>, key: &Option<Octets64>, anchors: &[Anchor]) -> Option<usize>
+fn first_anchor_above(
+    child: &KeptCert<'_>,
+    key: &Option<Octets64>,
+    anchors: &[Anchor],
+) -> Option<usize>
     requires key { TellsKey (HasAuthorityKey child.now) key.now }
     ensures first { TellsFirst (IsAnchorAbove child.now) anchors.now result }
 {

@@ -8,7 +8,10 @@ use der_core::Octets64;
 use std::alloc::{AllocError, Global};
 
 // The certificate's own.
-pub(crate) fn subject_key(alloc: Global, cert: &KeptCert<'_>) -> Result<Option<Octets64>, AllocError>
+pub(crate) fn subject_key(
+    alloc: Global,
+    cert: &KeptCert<'_>,
+) -> Result<Option<Octets64>, AllocError>
     ensures told { IfOk result (TellsKey (HasSubjectKey cert.now)) }
 {
     match cert.extensions(alloc)? {
@@ -18,7 +21,10 @@ pub(crate) fn subject_key(alloc: Global, cert: &KeptCert<'_>) -> Result<Option<O
 }
 
 // The one that it gives for the key above it.
-pub(crate) fn authority_key(alloc: Global, cert: &KeptCert<'_>) -> Result<Option<Octets64>, AllocError>
+pub(crate) fn authority_key(
+    alloc: Global,
+    cert: &KeptCert<'_>,
+) -> Result<Option<Octets64>, AllocError>
     ensures told { IfOk result (TellsKey (HasAuthorityKey cert.now)) }
 {
     match cert.extensions(alloc)? {

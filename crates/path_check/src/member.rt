@@ -17,7 +17,7 @@ pub(crate) struct Member<'a> {
 // The members at these places, or None where the extensions of one don't read.
 pub(crate) fn read_members<'a>(
     alloc: Global,
-    certs: &[KeptCert<'a>],
+    certs: &'a [KeptCert<'a>],
     places: &[usize],
 ) -> Result<Option<Vec<Member<'a>>>, AllocError>
     requires within { AllByRecursion (λ place. place < length certs.now) places.now }

@@ -63,10 +63,10 @@ fn path_from(
 ) -> Result<Option<(usize, usize)>, Fail> {
     let anchors = [root(alloc)?];
     let certs = certs_of(alloc, octets)?;
-    let signer = certs.get(place).ok_or("a signer")?.cert();
+    let signer = certs.get(place).ok_or("a signer")?;
     let sid = Sid::Serial {
-        issuer: signer.signed.issuer,
-        serial: signer.signed.serial,
+        issuer: signer.issuer(),
+        serial: signer.serial(),
     };
     match find_path(alloc, &sid, &certs, &anchors) {
         Ok(path) => Ok(Some((path.members.len(), *path.members.last().ok_or("a member")?))),
@@ -94,8 +94,8 @@ fn failing(alloc: Global, octets: &'static [u8], at: u64) -> Result<Option<u8>, 
     let certs = certs_of(alloc, octets)?;
     let signer = certs.first().ok_or("a signer")?;
     let sid = Sid::Serial {
-        issuer: signer.signed.issuer,
-        serial: signer.signed.serial,
+        issuer: signer.issuer(),
+        serial: signer.serial(),
     };
     match find_path(alloc, &sid, &certs, &anchors) {
         Ok(path) => {
