@@ -1,7 +1,7 @@
 #!/bin/bash
 # Times the choice of a path among 20,000 certificates, some 1.3 MiB: where none is the signer's, where the last
 # is and stands below the anchor, and where the last eight are a path. With the most memory that the process
-# held. For what constraints permit see bench/grants.sh.
+# held. Then what constraints permit, by bench/grants.sh.
 cd "$(dirname "$0")/.."
 . bench/built.sh
 
@@ -124,5 +124,6 @@ fn main(rt: HostRuntime) -> io::Result<()> {
 }
 RATTLE
 for chain in 0 1 8; do
-    echo "$(timed $chain)"
+    timed "$chain"
 done
+bench/grants.sh
