@@ -1,0 +1,2 @@
+pub mod CertificatePlan
+pub mod Unsigned
