@@ -54,24 +54,31 @@ put_text signed signature size contents long is =
     same : length (length_octets (1 + size)) ≡ length (length_octets (length (0 ∷ signature)))
     same = ap (λ (n : ℕ). length (length_octets n)) {x = 1 + size} {y = length (0 ∷ signature)} (omega (arith, long))
 
--- what stands behind the head and the tag is the signed part without its tag
-pub signed_within : (head signed bits : List ℕ) → 1 ≤ length signed
-    → take (length (head ++ signed) - (length head + 1)) (drop (length head + 1) (put head signed bits)) ≡ drop 1 signed
-signed_within head [] bits some = absurd (omega (arith, some))
-signed_within head (tag ∷ octets) bits some =
-    ap (λ (all : List ℕ). take n (drop (length head + 1) all)) spread
-    ∙ ap (take n) (sym (drop-drop 1 (length head) (head ++ (tag ∷ octets ++ rest))))
-    ∙ ap (λ (all : List ℕ). take n (drop 1 all)) (drop_at head (tag ∷ octets ++ rest) (length head) refl)
-    ∙ take_at octets rest n (omega (arith, length-append head (tag ∷ octets)))
+-- what stands behind a front and a tag, up to what comes next, is the signed part without its tag
+pub within : (front signed rest : List ℕ) → 1 ≤ length signed
+    → take (length (front ++ signed) - (length front + 1)) (drop (length front + 1) (front ++ (signed ++ rest)))
+    ≡ drop 1 signed
+within front [] rest some = absurd (omega (arith, some))
+within front (tag ∷ octets) rest some =
+    ap (take n) (sym (drop-drop 1 (length front) (front ++ (tag ∷ octets ++ rest))))
+    ∙ ap (λ (all : List ℕ). take n (drop 1 all)) (drop_at front (tag ∷ octets ++ rest) (length front) refl)
+    ∙ take_at octets rest n (omega (arith, length-append front (tag ∷ octets)))
   where
     n : ℕ
-    n = length (head ++ (tag ∷ octets)) - (length head + 1)
+    n = length (front ++ (tag ∷ octets)) - (length front + 1)
 
+-- the same of a certificate as it is put
+pub signed_within : (head signed bits : List ℕ) → 1 ≤ length signed
+    → take (length (head ++ signed) - (length head + 1)) (drop (length head + 1) (put head signed bits)) ≡ drop 1 signed
+signed_within head signed bits some =
+    ap (λ (all : List ℕ). take (length (head ++ signed) - (length head + 1)) (drop (length head + 1) all)) spread
+    ∙ within head signed rest some
+  where
     rest : List ℕ
     rest = signature_algorithm ++ (bits ++ 0 ∷ [])
 
-    spread : put head (tag ∷ octets) bits ≡ head ++ (tag ∷ octets ++ rest)
+    spread : put head signed bits ≡ head ++ (signed ++ rest)
     spread =
-        append_assoc ((head ++ (tag ∷ octets)) ++ signature_algorithm) bits (0 ∷ [])
-        ∙ append_assoc (head ++ (tag ∷ octets)) signature_algorithm (bits ++ 0 ∷ [])
-        ∙ append_assoc head (tag ∷ octets) rest
+        append_assoc ((head ++ signed) ++ signature_algorithm) bits (0 ∷ [])
+        ∙ append_assoc (head ++ signed) signature_algorithm (bits ++ 0 ∷ [])
+        ∙ append_assoc head signed rest

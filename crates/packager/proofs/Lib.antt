@@ -1,3 +1,12 @@
 pub mod Around
-pub mod Results
+pub mod Choices
+pub mod Descriptions
+pub mod IssuedCertificates
+pub mod Messages
+pub mod Orders
+pub mod Packed
+pub mod PlannedExtensions
+pub mod Runs
+pub mod SignatureSizes
+pub mod TextSizes
 pub mod Written

@@ -7,10 +7,12 @@ use Rattle.der_core.specs.declared.time_value.Time.{Time}
 use Rattle.hss_chain.specs.Keys.{hss_key_text}
 use Rattle.hss_chain.specs.declared.key.HssKey.{HssKey}
 use Rattle.cert_fields.specs.Algorithms.{signature_algorithm}
-use Rattle.cert_fields.specs.Certificate.{Certificate, SignedPart, BitString, bits_text}
+use Rattle.cert_fields.specs.Certificate.{Certificate, SignedPart, BitString, bits_text, signed_text}
 use Rattle.cert_fields.specs.Extensions.{Extension, extensions_text, key_identifier_text, authority_key_text, ca_rule_text}
 use Rattle.cert_fields.specs.ExtensionTypes.{subject_key_identifier, authority_key_identifier, basic_constraints}
 use Rattle.cert_fields.specs.ExtensionTypes.{key_usage, content_constraints, subject_alt_name}
+use Rattle.lms_sign.specs.declared.key.SignKey.{SignKey}
+use Rattle.lms_sign.specs.SignTexts.{sign_text}
 use Rattle.packager.specs.declared.certificate_plan.Authority.{Authority}
 use Rattle.packager.specs.declared.certificate_plan.CertPlan.{CertPlan}
 use Rattle.packager.specs.declared.certificate_plan.KeyUses.{KeyUses}
@@ -139,3 +141,7 @@ planned_part p = record {
 abbrev pub planned_certificate : CertificatePlan → List ℕ → Certificate
 planned_certificate p signature =
     record { signed = planned_part p; algorithm = signature_algorithm; signature = (0, signature) }
+
+-- the certificate, signed by this key with this leaf
+abbrev pub certificate_by : CertificatePlan → SignKey → ℕ → Certificate
+certificate_by p key leaf = planned_certificate p (sign_text key leaf (signed_text (planned_part p)))

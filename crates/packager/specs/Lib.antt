@@ -1,2 +1,6 @@
 pub mod CertificatePlan
+pub mod PackagePlan
+pub mod PlannedMessage
+pub mod ReadPlans
+pub mod SigningRuns
 pub mod Unsigned

@@ -34,7 +34,7 @@ fn put_version(alloc: Global, out: &mut Vec<u8>) -> Result<(), AllocError>
 
 // The algorithm of keys and signatures.
 #[tactic(auto, unfolding(der_core::specs::Element::enc, der_core::specs::Element::length_octets))]
-fn put_algorithm(out: &mut Vec<u8>) -> Result<(), AllocError>
+pub(crate) fn put_algorithm(out: &mut Vec<u8>) -> Result<(), AllocError>
     ensures ok { OnOk result (out.new.items ≡ out.old.items ++ signature_algorithm) }
     ensures most { OnOk result (length out.new.items ≤ length out.old.items + 15) }
 {

@@ -1,28 +1,51 @@
-//! Certificates of HSS/LMS keys, written and signed (RFC 5280, section 4.1; RFC 9708).
+//! Certificates of HSS/LMS keys and signed firmware packages, written and signed (RFC 5280, section
+//! 4.1; RFC 9708; RFC 5652, section 5; RFC 4108, section 2).
 //!
 //! - `issue` is the certificate that a plan stands for, before it is signed: what is signed (`signed`),
 //!   how many octets the signature has (`size`), and with each signature of that size the
 //!   certificate's text, whole (`text`), in the words of `specs/CertificatePlan`.
+//! - `pack` is likewise the signed package that a plan stands for (`signed`, `size`, `text`), in the
+//!   words of `specs/PackagePlan` and `specs/PlannedMessage`.
 //! - `finish` puts the signature of a key with a spent leaf behind the octets (`octets`). It takes no
 //!   memory, and as a leaf is taken by value, none signs twice.
+//! - `laws`: a planned certificate has a text, and its extensions read as the plan's values
+//!   (`issued_certificates_are_read`). A planned package is signed data of one signer, whose
+//!   attributes describe a package by the plan's values (`packages_are_signed_data`), and its image
+//!   is the plan's (`packages_keep_their_image`). Signatures hold under the key's public key and have
+//!   the size for which there is room (`outputs_are_signed`), so `finish` gives the certificate or the
+//!   package that is signed with its leaf (`finished_is_the_output`).
+//! - Over all runs that sign with a key's leaves and all power cuts in them, no two outputs of which
+//!   any octet was sent have the same leaf: the law `no_leaf_signs_twice`, in the words of
+//!   `specs/SigningRuns`.
 //!
-//! A caller takes the memory with `issue`, then spends the leaf, then signs with `finish`, and then
-//! sends.
+//! A caller takes the memory with `issue` or `pack`, then spends the leaf, then signs with `finish`,
+//! and then sends.
 //!
-//! Below it stand `cert_fields`, with the texts of certificates and of their extensions, `der_write`,
-//! and `lms_sign`, with keys and signatures.
+//! Below it stand `cert_fields`, with the texts of certificates and of their extensions, `cms_signed`,
+//! with those of signed data, `package_attrs` and `attribute_write`, with the attributes of packages,
+//! `der_write`, and `lms_sign`, with keys and signatures.
 //!
-//! Firmware packages are not written yet. No clause says that a certificate which is issued is read
-//! back: that its text is that of its value, by the definitions that `read_cert` reads, is said.
+//! Limits: a community of modules has one serial entry, and an image at most 2^24 octets. That a
+//! certificate or a package is read back is said where what its plan says has texts
+//! (`IsCertificatePlan`, `HasTexts`), which no type keeps, and of a package where at most 2^20 octets
+//! stand behind its content. That a run of a command is one of those of the law is for the command to
+//! say.
 #![tactic(auto)]
 
+mod attributes;
 mod certificate;
 mod certificate_plan;
 mod extensions;
+mod fronts;
+pub mod laws;
+mod package;
+mod package_plan;
 #[cfg(test)]
 mod tests;
 mod unsigned;
 
 pub use certificate::issue;
 pub use certificate_plan::{Authority, CertPlan, KeyUses};
+pub use package::pack;
+pub use package_plan::PackagePlan;
 pub use unsigned::{Unsigned, finish};

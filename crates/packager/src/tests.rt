@@ -1,16 +1,20 @@
-// A certificate that is issued, against octets worked by hand from RFC 5280 and RFC 4108, section 5.
+// A certificate that is issued and packages that are packed, against octets worked by hand from RFC 5280,
+// RFC 5652, section 5, and RFC 4108, sections 2 and 5.
 ghost use Rattle.std.specs.Prelude.{◌≡◌, IfOk};
 ghost use Rattle.lms_sign.specs.PublicKeys.{leaf_count};
 ghost use Rattle.packager.specs.CertificatePlan.{IsShort, plan_view};
+ghost use Rattle.packager.specs.PackagePlan.{package_view, IsPackagePlan};
 
 use super::*;
 use cert_fields::read_cert;
+use cms_signed::{SignedFault, SignedView, read_signed, read_signed_of};
 use der_core::{Moment, Octets64, read_oid};
 use edge_board::SureBoard;
 use hss_chain::hss_check;
 use key_state::spend;
 use lms_sign::{SignKey, public};
 use lms_verify::{LmsKind, OtsKind};
+use package_attrs::{Identifier, PackageName};
 use std::alloc::Global;
 use std::test::Fail;
 
@@ -78,5 +82,82 @@ fn a_certificate_is_issued(rt: HostRuntime) -> Result<(), Fail> {
     };
     assert!(rt; cert.signed.extensions == Some(EXTENSIONS));
     assert!(rt; hss_check(&public(&key), cert.tbs, &[], cert.signature.octets));
+    Ok(())
+}
+
+// encapContentInfo of the image `hello`, as it is and wrapped.
+const BARE: &[u8; 24] = b"\x30\x16\x06\x0b\x2a\x86\x48\x86\xf7\x0d\x01\x09\x10\x01\x10\xa0\x07\
+    \x04\x05hello";
+
+const WRAPPED: &[u8; 26] = b"\x30\x18\x06\x0b\x2a\x86\x48\x86\xf7\x0d\x01\x09\x10\x01\x10\xa0\x09\
+    \x04\x07\x04\x05hello";
+
+// A package 1.2.3.1 in version 7 for hardware of type 1.2.3.
+fn package_plan(alloc: Global, wrap: bool) -> Result<PackagePlan, Fail>
+    ensures plan { IfOk result (λ plan. IsPackagePlan (package_view plan)) }
+{
+    let id = read_oid(&[0x2a, 3, 1]).ok_or("an identifier")?;
+    let target = read_oid(&[0x2a, 3]).ok_or("an identifier")?;
+    let signer = Octets64::new(&[0xa1]).ok_or("octets")?;
+    let mut targets = Vec::new(alloc);
+    targets.push(target)?;
+    Ok(PackagePlan {
+        identifier: Identifier {
+            name: PackageName::Preferred { id, version: 7 },
+            stale: None,
+        },
+        targets,
+        communities: Vec::new(alloc),
+        kind: None,
+        dependencies: Vec::new(alloc),
+        certificates: Vec::new(alloc),
+        signer,
+        wrap,
+        image: b"hello".to_vec(alloc)?,
+    })
+}
+
+// The package of the plan, signed with the key's first leaf.
+fn packed(alloc: Global, wrap: bool) -> Result<Vec<u8>, Fail> {
+    let key = key();
+    let unsigned = pack(alloc, &package_plan(alloc, wrap)?, &key)?;
+    let mut board = SureBoard::new(alloc, 18)?;
+    let Ok(leaf) = spend(&mut board, 32) else {
+        return Err(Fail::from("a leaf"));
+    };
+    Ok(finish(unsigned, &key, leaf))
+}
+
+// Whether the package is read, and has this behind the heads and the digest algorithms before it.
+fn is_packed(alloc: Global, wrap: bool, encapsulated: &[u8]) -> Result<bool, Fail> {
+    let octets = packed(alloc, wrap)?;
+    let Some(rest) = octets.get(41..) else {
+        return Ok(false);
+    };
+    Ok(rest.starts_with(encapsulated) && read_signed(alloc, &octets).is_ok())
+}
+
+#[test]
+fn packages_are_packed(rt: HostRuntime) -> Result<(), Fail> {
+    assert!(rt; is_packed(rt.alloc(), false, BARE)?);
+    assert!(rt; is_packed(rt.alloc(), true, WRAPPED)?);
+    Ok(())
+}
+
+// The first condition that fails.
+fn failing(answer: &Result<SignedView<'_>, SignedFault>) -> Option<u8> {
+    match answer {
+        Err(SignedFault::Fails(condition)) => Some(condition.number()),
+        _ => None,
+    }
+}
+
+// firmwareLoadReceipt, 1.2.840.113549.1.9.16.1.17 (RFC 4108, section 4.1).
+#[test]
+fn a_package_is_no_receipt(rt: HostRuntime) -> Result<(), Fail> {
+    let alloc = rt.alloc();
+    let octets = packed(alloc, false)?;
+    let receipt = read_oid(b"\x2a\x86\x48\x86\xf7\x0d\x01\x09\x10\x01\x11").ok_or("a type")?;
+    assert_eq!(rt; failing(&read_signed_of(alloc, &octets, &receipt)), Some(9));
     Ok(())
 }

@@ -3,7 +3,7 @@ use Rattle.der_core.specs.Head.{head_octets}
 use Rattle.cert_fields.specs.Algorithms.{signature_algorithm}
 use Rattle.packager.specs.Unsigned.{Parts}
 use Rattle.packager.proofs.Around.{put, put_text, signed_within}
-use Rattle.packager.proofs.Results.{if_ok}
+use Rattle.std.proofs.lemmas.Result.{IfOk-weaker}
 use Rattle.packager.proofs.certificate.around.Goals as goal
 
 -- the octets, as they were put
@@ -41,15 +41,15 @@ returns-clause-signed c =
     let front : c.len-from.result ≡ length (head c) = omega (arith, c.len-from.ensures, ap (λ (o : List ℕ). length o) put_front) in
     let part = c.in_ok-extend_from_slice.ensures.items ∙ ap (λ (o : List ℕ). o ++ c.args.signed.now) put_front in
     let end : c.len-to.result ≡ length (head c ++ c.args.signed.now) = omega (arith, c.len-to.ensures, ap (λ (o : List ℕ). length o) part) in
-    if_ok c.new.result c.new.ensures.parts (λ unsigned is.
+    IfOk-weaker c.new.result _ _ (λ unsigned is.
     ap (λ (parts : Parts). parts.signed) is
     ∙ ap (λ (o : List ℕ). 0x30 ∷ take (c.len-to.result - from) (drop from o)) (are c)
     ∙ ap (λ (n : ℕ). 0x30 ∷ take (c.len-to.result - (n + 1)) (drop (n + 1) (put (head c) c.args.signed.now (bits c)))) front
     ∙ ap (λ (n : ℕ). 0x30 ∷ take (n - (length (head c) + 1)) (drop (length (head c) + 1) (put (head c) c.args.signed.now (bits c)))) end
-    ∙ ap (λ (o : List ℕ). 0x30 ∷ o) (signed_within (head c) c.args.signed.now (bits c) c.requires.some))
+    ∙ ap (λ (o : List ℕ). 0x30 ∷ o) (signed_within (head c) c.args.signed.now (bits c) c.requires.some)) c.new.ensures.parts
 
 pub returns-clause-text : goal.returns-clause-text
 returns-clause-text c =
-    if_ok c.new.result c.new.ensures.parts (λ unsigned is. λ signature long.
+    IfOk-weaker c.new.result _ _ (λ unsigned is. λ signature long.
     ap (λ (parts : Parts). parts.before ++ signature) is ∙ ap (λ (o : List ℕ). o ++ signature) (are c)
-    ∙ put_text c.args.signed.now signature c.args.size (contents c) long (omega (arith, c.head_size.ensures.size)))
+    ∙ put_text c.args.signed.now signature c.args.size (contents c) long (omega (arith, c.head_size.ensures.size))) c.new.ensures.parts

@@ -1,6 +1,6 @@
 use Rattle.std.proofs.Common.{◌≡◌, ◌≤◌, ◌++◌, ◌∙◌, List, ℕ, ◌∷◌, length, drop, ap, refl, arith}
 use Rattle.der_core.specs.Element.{enc}
-use Rattle.packager.proofs.Results.{if_ok}
+use Rattle.std.proofs.lemmas.Result.{IfOk-weaker}
 use Rattle.packager.proofs.certificate.issue.Goals as goal
 
 -- an element has its tag
@@ -21,5 +21,5 @@ pub returns-clause-signed : goal.returns-clause-signed
 returns-clause-signed c =
     let is = c.deref-2.ensures.value ∙ c.in_ok-put_tlv.ensures.ok ∙ ap (λ (o : List ℕ). o ++ enc 0x30 c.deref.result.now) c.new-signed.ensures.items in
     let part = c.deref.ensures.value ∙ c.in_ok-part.ensures.ok in
-    if_ok c.around.result c.around.ensures.signed (λ unsigned signed.
-    signed ∙ ap (λ (o : List ℕ). 0x30 ∷ drop 1 o) is ∙ with_tag c.deref.result.now ∙ ap (enc 0x30) part)
+    IfOk-weaker c.around.result _ _ (λ unsigned signed.
+    signed ∙ ap (λ (o : List ℕ). 0x30 ∷ drop 1 o) is ∙ with_tag c.deref.result.now ∙ ap (enc 0x30) part) c.around.ensures.signed

@@ -1,0 +1,214 @@
+// Writing the signed attributes of a package.
+ghost use Rattle.std.specs.Prelude.{◌≡◌, ◌++◌, ◌+◌, ◌∷◌, [], ◌≤◌, ◌^◌, OnOk, IfOk, List, length, map};
+ghost use Rattle.der_core.specs.Attribute.{Attribute, attribute_text};
+ghost use Rattle.attribute_set.specs.AttributeSet.{set_contents};
+ghost use Rattle.der_core.specs.Element.{enc};
+ghost use Rattle.der_write.specs.Sets.{joined};
+ghost use Rattle.attribute_write.specs.Communities.{community_of};
+ghost use Rattle.cms_signed.specs.Cut.{firmware_package};
+ghost use Rattle.cms_signed.specs.Signer.{signed_attributes_text};
+ghost use Rattle.package_attrs.specs.AttributeTypes.{content_type, message_digest, firmware_package_id};
+ghost use Rattle.package_attrs.specs.AttributeTypes.{target_hardware_ids, community_identifiers, firmware_package_info};
+ghost use Rattle.package_attrs.specs.Communities.{communities_text};
+ghost use Rattle.package_attrs.specs.Identifier.{view, identifier_text};
+ghost use Rattle.package_attrs.specs.Information.{info_text};
+ghost use Rattle.package_attrs.specs.Targets.{targets_text};
+ghost use Rattle.sha2.specs.Sha256.{sha256};
+ghost use Rattle.packager.specs.PackagePlan.{package_view, IsPackagePlan};
+ghost use Rattle.packager.specs.PlannedMessage.{one_value, value_if, named_communities, named_info};
+ghost use Rattle.packager.specs.PlannedMessage.{in_order, planned_description, described_attributes, planned_attributes, planned_content};
+
+use crate::package_plan::PackagePlan;
+use attribute_write::{
+    NamedCommunity, put_attribute, put_communities, put_identifier, put_info, put_targets,
+};
+use der_core::{Oid, tags};
+use der_write::laws::one_set;
+use der_write::{put_tlv, sorted_contents};
+use package_attrs::{Identifier, PackageName, attribute_types as types};
+use std::alloc::{AllocError, Global};
+
+// id-ct-firmwarePackage, 1.2.840.113549.1.9.16.1.16 (RFC 4108, section 2.1.5), by its contents.
+pub(crate) const FIRMWARE_PACKAGE: [u8; 11] = [
+    0x2a, 0x86, 0x48, 0x86, 0xf7, 0x0d, 0x01, 0x09, 0x10, 0x01, 0x10,
+];
+
+// Appends an attribute of this type with this one value to the list of them.
+fn push_attribute(
+    alloc: Global,
+    parts: &mut Vec<Vec<u8>>,
+    kind: &[u8],
+    value: &[u8],
+) -> Result<(), AllocError>
+    requires kind { length kind.now ≤ 64 }
+    requires value { length value.now ≤ 2 ^ 20 }
+    ensures ok { OnOk result (map (λ part. part.items) parts.new.items
+        ≡ map (λ part. part.items) parts.old.items
+        ++ attribute_text (one_value kind.now value.now) ∷ []) }
+    ensures most { OnOk result (length (joined (map (λ part. part.items) parts.new.items))
+        ≤ length (joined (map (λ part. part.items) parts.old.items)) + length value.now + 82) }
+{
+    let mut part = Vec::new(alloc);
+    put_attribute(alloc, &mut part, kind, value)?;
+    parts.push(part)?;
+    Ok(())
+}
+
+// The type of the content (RFC 5652, section 11.1).
+#[tactic(auto, unfolding(der_core::specs::Element::enc, der_core::specs::Element::length_octets))]
+fn push_content_type(alloc: Global, parts: &mut Vec<Vec<u8>>) -> Result<(), AllocError>
+    ensures ok { OnOk result (map (λ part. part.items) parts.new.items
+        ≡ map (λ part. part.items) parts.old.items
+        ++ attribute_text (one_value content_type (enc 0x06 firmware_package)) ∷ []) }
+    ensures most { OnOk result (length (joined (map (λ part. part.items) parts.new.items))
+        ≤ length (joined (map (λ part. part.items) parts.old.items)) + 100) }
+{
+    let mut value = Vec::new(alloc);
+    put_tlv(
+        alloc,
+        &mut value,
+        tags::OBJECT_IDENTIFIER,
+        &FIRMWARE_PACKAGE,
+    )?;
+    push_attribute(alloc, parts, &types::CONTENT_TYPE, &value)
+}
+
+// The digest of the content (RFC 5652, section 11.2).
+fn push_digest(alloc: Global, parts: &mut Vec<Vec<u8>>, digest: &[u8; 32]) -> Result<(), AllocError>
+    ensures ok { OnOk result (map (λ part. part.items) parts.new.items
+        ≡ map (λ part. part.items) parts.old.items
+        ++ attribute_text (one_value message_digest (enc 0x04 digest.now)) ∷ []) }
+    ensures most { OnOk result (length (joined (map (λ part. part.items) parts.new.items))
+        ≤ length (joined (map (λ part. part.items) parts.old.items)) + 120) }
+{
+    let mut value = Vec::new(alloc);
+    put_tlv(alloc, &mut value, tags::OCTET_STRING, digest)?;
+    push_attribute(alloc, parts, &types::MESSAGE_DIGEST, &value)
+}
+
+// The package's identifier (RFC 4108, section 2.2.3).
+fn push_identifier(
+    alloc: Global,
+    parts: &mut Vec<Vec<u8>>,
+    identifier: &Identifier,
+) -> Result<(), AllocError>
+    ensures ok { OnOk result (map (λ part. part.items) parts.new.items
+        ≡ map (λ part. part.items) parts.old.items
+        ++ attribute_text (one_value firmware_package_id (identifier_text (view identifier.now))) ∷ []) }
+    ensures most { OnOk result (length (joined (map (λ part. part.items) parts.new.items))
+        ≤ length (joined (map (λ part. part.items) parts.old.items)) + 300) }
+{
+    let mut value = Vec::new(alloc);
+    put_identifier(alloc, &mut value, identifier)?;
+    push_attribute(alloc, parts, &types::FIRMWARE_PACKAGE_ID, &value)
+}
+
+// The hardware types that it is for (RFC 4108, section 2.2.4).
+fn push_targets(alloc: Global, parts: &mut Vec<Vec<u8>>, hw_types: &[Oid]) -> Result<(), AllocError>
+    requires few { length hw_types.now ≤ 64 }
+    ensures ok { OnOk result (map (λ part. part.items) parts.new.items
+        ≡ map (λ part. part.items) parts.old.items
+        ++ attribute_text (one_value target_hardware_ids (targets_text hw_types.now)) ∷ []) }
+    ensures most { OnOk result (length (joined (map (λ part. part.items) parts.new.items))
+        ≤ length (joined (map (λ part. part.items) parts.old.items)) + 5000) }
+{
+    let mut value = Vec::new(alloc);
+    put_targets(alloc, &mut value, hw_types)?;
+    push_attribute(alloc, parts, &types::TARGET_HARDWARE_IDS, &value)
+}
+
+// The communities that it is for, where there are any (RFC 4108, section 2.2.8).
+fn push_communities(
+    alloc: Global,
+    parts: &mut Vec<Vec<u8>>,
+    communities: &[NamedCommunity],
+) -> Result<(), AllocError>
+    requires few { length communities.now ≤ 64 }
+    ensures ok { OnOk result (map (λ part. part.items) parts.new.items
+        ≡ map (λ part. part.items) parts.old.items
+        ++ map attribute_text (value_if community_identifiers communities_text
+        (named_communities (map community_of communities.now)))) }
+    ensures most { OnOk result (length (joined (map (λ part. part.items) parts.new.items))
+        ≤ length (joined (map (λ part. part.items) parts.old.items)) + 16000) }
+{
+    if communities.is_empty() {
+        return Ok(());
+    }
+    let mut value = Vec::new(alloc);
+    put_communities(alloc, &mut value, communities)?;
+    push_attribute(alloc, parts, &types::COMMUNITY_IDENTIFIERS, &value)
+}
+
+// The package's type and dependencies, where there are any (RFC 4108, section 2.2.9).
+fn push_info(
+    alloc: Global,
+    parts: &mut Vec<Vec<u8>>,
+    kind: Option<u128>,
+    dependencies: &[PackageName],
+) -> Result<(), AllocError>
+    requires few { length dependencies.now ≤ 8 }
+    ensures ok { OnOk result (map (λ part. part.items) parts.new.items
+        ≡ map (λ part. part.items) parts.old.items
+        ++ map attribute_text (value_if firmware_package_info info_text
+        (named_info kind dependencies.now))) }
+    ensures most { OnOk result (length (joined (map (λ part. part.items) parts.new.items))
+        ≤ length (joined (map (λ part. part.items) parts.old.items)) + 1000) }
+{
+    if kind.is_none() && dependencies.is_empty() {
+        return Ok(());
+    }
+    let mut value = Vec::new(alloc);
+    put_info(alloc, &mut value, kind, dependencies)?;
+    push_attribute(alloc, parts, &types::FIRMWARE_PACKAGE_INFO, &value)
+}
+
+// The attributes, each the text of one, in no order.
+fn parts(alloc: Global, plan: &PackagePlan, digest: &[u8; 32]) -> Result<Vec<Vec<u8>>, AllocError>
+    requires plan { IsPackagePlan (package_view plan.now) }
+    requires digest { digest.now ≡ sha256 (planned_content (package_view plan.now)) }
+    ensures ok { IfOk result (λ parts. map (λ part. part.items) parts.items ≡ map attribute_text
+        (described_attributes (planned_description (package_view plan.now)))) }
+    ensures most { IfOk result (λ parts.
+        length (joined (map (λ part. part.items) parts.items)) ≤ 30000) }
+{
+    let mut parts = Vec::new(alloc);
+    push_content_type(alloc, &mut parts)?;
+    push_digest(alloc, &mut parts, digest)?;
+    push_identifier(alloc, &mut parts, &plan.identifier)?;
+    push_targets(alloc, &mut parts, &plan.targets)?;
+    push_communities(alloc, &mut parts, &plan.communities)?;
+    push_info(alloc, &mut parts, plan.kind, &plan.dependencies)?;
+    Ok(parts)
+}
+
+// The contents of the set of these parts, in ascending order, where they are the texts of attributes.
+fn sorted(alloc: Global, parts: &[Vec<u8>]) -> Result<Vec<u8>, AllocError>
+    ensures ok { IfOk result (λ contents. (attributes : List Attribute)
+        → map (λ part. part.items) parts.now ≡ map attribute_text attributes
+        → contents.items ≡ set_contents (in_order attributes)) }
+    ensures size { IfOk result (λ contents. length contents.items
+        ≡ length (joined (map (λ part. part.items) parts.now))) }
+{
+    one_set();
+    sorted_contents(alloc, parts)
+}
+
+// The element [0] of the signed attributes of a planned package, in ascending order of their octets
+// (RFC 5652, section 5.3; X.690, section 11.6). `digest` is the SHA-256 of its content.
+pub(crate) fn signed_attributes(
+    alloc: Global,
+    plan: &PackagePlan,
+    digest: &[u8; 32],
+) -> Result<Vec<u8>, AllocError>
+    requires plan { IsPackagePlan (package_view plan.now) }
+    requires digest { digest.now ≡ sha256 (planned_content (package_view plan.now)) }
+    ensures ok { IfOk result (λ element. element.items
+        ≡ signed_attributes_text (planned_attributes (package_view plan.now))) }
+    ensures most { IfOk result (λ element. length element.items ≤ 30006) }
+{
+    let parts = parts(alloc, plan, digest)?;
+    let contents = sorted(alloc, &parts)?;
+    let mut element = Vec::new(alloc);
+    put_tlv(alloc, &mut element, tags::CONSTRUCTED_0, &contents)?;
+    Ok(element)
+}
