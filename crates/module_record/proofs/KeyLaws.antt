@@ -29,13 +29,13 @@ use Rattle.module_record.proofs.KindLaws.{ots_kind_of-kind, ots_kind_of-some, va
 
 -- ---- parts
 
-abbrev fields_text : KeyParts → List ℕ
+abbrev pub fields_text : KeyParts → List ℕ
 fields_text p =
     enc 2 (number_contents (lms_number p.kind)) ++ (enc 2 (number_contents (ots_number p.ots))
     ++ (enc 4 p.seed ++ enc 4 p.id))
 
-abbrev AreFields : KeyParts → Type 0
-AreFields p = (height p.kind ≤ 10) × (length p.seed ≡ 32) × (length p.id ≡ 16)
+abbrev pub AreKeyFields : KeyParts → Type 0
+AreKeyFields p = (height p.kind ≤ 10) × (length p.seed ≡ 32) × (length p.id ≡ 16)
 
 abbrev IsLow : LmsKind → Type 0
 IsLow kind = height kind ≤ 10
@@ -56,7 +56,7 @@ ots-front =
     (valued-whole ots_kind_of ots_number (λ n ots e. (tt, ots_kind_of-some n ots e))
     (λ ots any. (omega (arith, ots_small ots), ots_kind_of-kind ots)))
 
-sized-front : (size : ℕ) → size < 2 ^ 32
+pub sized-front : (size : ℕ) → size < 2 ^ 32
     → IsFront (λ (octets : List ℕ). enc 4 octets) (λ octets. length octets ≡ size) (element 4 (sized size))
 sized-front size small =
     same-front (λ octets h. (eqb-true (length octets) size h.1, refl))
@@ -66,7 +66,7 @@ sized-front size small =
 
 -- ---- keys
 
-fields-whole : IsWhole fields_text AreFields fields_of
+fields-whole : IsWhole fields_text AreKeyFields fields_of
 unfolding fields_of
 fields-whole =
     mapped-whole (λ x. record { kind = x.0; ots = x.1.0; seed = x.1.1.0; id = x.1.1.1 })
@@ -98,7 +98,7 @@ ots_octet W2 = refl
 ots_octet W4 = refl
 ots_octet W8 = refl
 
-fields_size : (p : KeyParts) → AreFields p → length (fields_text p) ≡ 58
+fields_size : (p : KeyParts) → AreKeyFields p → length (fields_text p) ≡ 58
 fields_size p h =
     let kind-text = enc 2 (number_contents (lms_number p.kind)) in
     let ots-text = enc 2 (number_contents (ots_number p.ots)) in
@@ -124,38 +124,38 @@ fields_size p h =
       length-append (enc 4 p.seed) (enc 4 p.id),
     )
 
-abbrev parts_text : KeyParts → List ℕ
-parts_text p = enc 48 (fields_text p)
+abbrev pub key_parts_text : KeyParts → List ℕ
+key_parts_text p = enc 48 (fields_text p)
 
-parts_size : (p : KeyParts) → AreFields p → length (parts_text p) ≡ 60
+parts_size : (p : KeyParts) → AreKeyFields p → length (key_parts_text p) ≡ 60
 parts_size p h = omega (arith, fields_size p h, short_enc 48 (fields_text p) (omega (arith, fields_size p h)))
 
-pub key-front : IsFront parts_text AreFields key_at
+pub key-front : IsFront key_parts_text AreKeyFields key_at
 unfolding key_at
 key-front = element-front 48 (is_tag 48 refl) (λ p h. omega (arith, fields_size p h)) fields-whole
 
 -- ---- key records
 
 abbrev contents_text : KeyParts → List ℕ
-contents_text p = enc 2 (number_contents 2) ++ parts_text p
+contents_text p = enc 2 (number_contents 2) ++ key_parts_text p
 
-contents_size : (p : KeyParts) → AreFields p → length (contents_text p) ≡ 63
+contents_size : (p : KeyParts) → AreKeyFields p → length (contents_text p) ≡ 63
 contents_size p h =
     let octet : length (number_contents 2) ≡ 1 = ots_octet W2 in
     omega (
       arith,
       parts_size p h,
-      length-append (enc 2 (number_contents 2)) (parts_text p),
+      length-append (enc 2 (number_contents 2)) (key_parts_text p),
       octet,
       short_enc 2
           (number_contents 2) (omega (arith, octet)),
     )
 
-record-whole : IsWhole contents_text AreFields record_of
+record-whole : IsWhole contents_text AreKeyFields record_of
 unfolding record_of
 record-whole =
     mapped-whole (λ x. x.1)
-    (λ x h. (h.1, ap (λ (n : ℕ). enc 2 (number_contents n) ++ parts_text x.1) (eqb-true x.0 2 h.0.1)))
+    (λ x h. (h.1, ap (λ (n : ℕ). enc 2 (number_contents n) ++ key_parts_text x.1) (eqb-true x.0 2 h.0.1)))
     (λ p h. ((2, p), ((omega arith, refl), h), refl))
     (before-whole (element-front 2 (is_tag 2 refl) (λ n h. omega (arith, length-number-le n h.0)) (tested-whole
     (λ n. n == 2) number-whole))
@@ -164,7 +164,7 @@ record-whole =
 abbrev pub record_text : KeyParts → List ℕ
 record_text p = enc 48 (contents_text p)
 
-pub record-front : IsFront record_text AreFields key_record_at
+pub record-front : IsFront record_text AreKeyFields key_record_at
 unfolding key_record_at
 record-front = element-front 48 (is_tag 48 refl) (λ p h. omega (arith, contents_size p h)) record-whole
 
@@ -183,7 +183,7 @@ same_key k l same =
     prop : (p : KeyParts) → IsProp (height p.kind ≤ 10)
     prop p = hlevel le_prop
 
-pub key_fields : (key : SignKey) → IsSignKey key → AreFields (view key)
+pub key_fields : (key : SignKey) → IsSignKey key → AreKeyFields (view key)
 key_fields key h = (h.low, h.seed, h.id)
 
 pub key_again : (key : SignKey) (rest : List ℕ) → IsSignKey key

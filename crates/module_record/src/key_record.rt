@@ -46,7 +46,7 @@ fn ots_kind(number: u128) -> Option<OtsKind>
 }
 
 // The octets, where there are so many.
-fn array_of<const N: usize>(octets: &[u8]) -> Option<[u8; N]>
+pub(crate) fn array_of<const N: usize>(octets: &[u8]) -> Option<[u8; N]>
     ensures exact { Answers (λ octets. octets) result (sized N octets.now) }
 {
     if octets.len() != N {
@@ -80,7 +80,7 @@ fn read_fields(fields: &[u8]) -> Option<SignKey>
 
 // The key at the front.
 #[tactic(auto, unfolding(crate::specs::Reading::key_at))]
-fn read_key(fields: &mut Cursor<'_>) -> Option<SignKey>
+pub(crate) fn read_key(fields: &mut Cursor<'_>) -> Option<SignKey>
     ensures exact { Answers (λ key. (view key, fields.new)) result (key_at fields.old) }
 {
     read_fields(fields.tagged(tags::SEQUENCE)?)
@@ -129,7 +129,7 @@ fn put_fields(alloc: Global, out: &mut Vec<u8>, key: &SignKey) -> Result<(), All
 }
 
 // The text of a key.
-fn key_octets(alloc: Global, key: &SignKey) -> Result<Vec<u8>, AllocError>
+pub(crate) fn key_octets(alloc: Global, key: &SignKey) -> Result<Vec<u8>, AllocError>
     ensures ok { IfOk result (λ octets. octets.items ≡ key_text key.now) }
     ensures size { IfOk result (λ octets. length octets.items ≡ 60) }
     ensures valid { OnOk result (IsSignKey key.now) }

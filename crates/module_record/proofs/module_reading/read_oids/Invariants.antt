@@ -1,0 +1,12 @@
+use Rattle.std.proofs.Common.{◌≡◌, length}
+use Rattle.der_core.specs.Shapes.{listed}
+use Rattle.module_record.specs.ModuleReading.{oid_at}
+use Rattle.module_record.proofs.ListLemmas.{behind}
+use Rattle.module_record.proofs.module_reading.read_oids.Given as goal
+
+-- those so far, and then those that are left
+abbrev pub invariant-loop-items : goal.invariant-loop-items
+invariant-loop-items l = listed oid_at l.contents ≡ behind l.oids.items (listed oid_at l.items)
+
+abbrev pub decreases-loop-items : goal.decreases-loop-items
+decreases-loop-items l = length l.items
