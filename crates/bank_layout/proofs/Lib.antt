@@ -1,0 +1,15 @@
+mod Parts
+mod Recovering
+mod Texts
+mod Sizes
+mod Rooms
+mod Installs
+mod Running
+mod Fresh
+mod Placed
+mod Kept
+mod Holders
+mod PackageLaws
+mod TableLaws
+mod ManifestLaws
+mod Own
