@@ -29,7 +29,7 @@ use Rattle.recipe_text.proofs.Cuts.{Without, cut_takes, cut_again}
 
 -- ---- words
 
-word_is : (word this : List ℕ) → is_word word this ≡ true → word ≡ this
+pub word_is : (word this : List ℕ) → is_word word this ≡ true → word ≡ this
 word_is [] [] e = refl
 word_is [] (y ∷ ys) e = absurd (false≢true e)
 word_is (x ∷ xs) [] e = absurd (false≢true e)
@@ -80,11 +80,11 @@ ots_of-some word ots e =
 
 -- ---- HEX
 
-ok_of : {V : Type 0} (r : Result V FromHexError) (v : V) → result_ok r ≡ Some v → r ≡ Ok v
+pub ok_of : {V : Type 0} (r : Result V FromHexError) (v : V) → result_ok r ≡ Some v → r ≡ Ok v
 ok_of (Ok w) v e = ap Ok (some_is w v e)
 ok_of (Err f) v e = absurd (none-some v e)
 
-decoded-some : (size : ℕ) (word octets : List ℕ) → 0 < size → decoded size word ≡ Some octets
+pub decoded-some : (size : ℕ) (word octets : List ℕ) → 0 < size → decoded size word ≡ Some octets
     → IsHex word octets × (length octets ≡ size)
 unfolding decoded
 decoded-some size word octets some e =
@@ -94,7 +94,7 @@ decoded-some size word octets some e =
     let twice = decode_of-ok word octets is in
     ((omega (arith, some, long), is), omega (arith, long, twice.2))
 
-decoded-hex : (size : ℕ) (word octets : List ℕ) → IsHex word octets → length octets ≡ size
+pub decoded-hex : (size : ℕ) (word octets : List ℕ) → IsHex word octets → length octets ≡ size
     → decoded size word ≡ Some octets
 unfolding decoded
 decoded-hex size word octets hex same =
@@ -107,7 +107,7 @@ digits_only (o ∷ os) h =
     let b = and_parts (is_hex_digit o) (list_all is_hex_digit os) h in
     (λ e. false≢true (subst (λ (x : ℕ). is_hex_digit x ≡ true) e b.0), digits_only os b.1)
 
-hex_only : (word octets : List ℕ) → IsHex word octets → Without 32 word
+pub hex_only : (word octets : List ℕ) → IsHex word octets → Without 32 word
 hex_only word octets hex =
     digits_only word (list_all-from_AllPass is_hex_digit word (decode_of-ok word octets hex.1).1)
 

@@ -10,7 +10,7 @@ use Rattle.recipe_text.specs.declared.bad_line.BadLine.{BadLine}
 use Rattle.recipe_text.specs.Lines.{IsLine, lines_text, kept, is_skipped, Say}
 use Rattle.recipe_text.specs.KeyRecipe.{IsKeyLine, IsOneAtMost, KeyRecipe, FirstBadKeyLine}
 use Rattle.recipe_text.specs.Passing.{Skips}
-use Rattle.recipe_text.proofs.Texts.{text_on, all-append, kept-append, one_text}
+use Rattle.recipe_text.proofs.Texts.{text_on, all-append, kept-append, kept_line, one_text}
 use Rattle.recipe_text.proofs.Entries.{IsClosed, one_first, recipe_good, bad_here, bad_behind}
 use Rattle.recipe_text.proofs.KeyLines.{one_key}
 
@@ -70,9 +70,6 @@ two_said line other [] h = absurd h
 two_said line other (k ∷ []) h = absurd h.1
 two_said line other (k ∷ l ∷ []) h = refl
 two_said line other (k ∷ l ∷ m ∷ ms) h = absurd h.1.1
-
-kept_line : (line : List ℕ) → is_skipped line ≡ false → kept (line ∷ []) ≡ line ∷ []
-kept_line line counts = rw counts refl
 
 -- skipped lines, and one that counts
 kept_one : (skipped : List (List ℕ)) (line : List ℕ) → kept skipped ≡ [] → is_skipped line ≡ false

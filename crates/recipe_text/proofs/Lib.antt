@@ -1,5 +1,21 @@
+mod CertLines
+mod CertPlaces
+mod CertPlans
 mod Cuts
+mod Decimals
 mod Entries
+mod Going
 mod KeyLines
 pub mod KeyRecipes
+mod Names
+mod Oids
+mod PackageLines
+mod PackagePlaces
+mod PackagePlans
+mod PackageWords
+pub mod RecipeLaws
+mod Recipes
+mod Sizes
+mod Taking
 mod Texts
+mod WordLemmas

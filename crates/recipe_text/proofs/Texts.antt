@@ -25,6 +25,9 @@ all_last P (x ∷ xs) y ys h = all_last P xs y ys h.1
 pub kept-append : (a b : List (List ℕ)) → kept (a ++ b) ≡ kept a ++ kept b
 kept-append a b = filter-append (λ line. not (is_skipped line)) a b
 
+pub kept_line : (line : List ℕ) → is_skipped line ≡ false → kept (line ∷ []) ≡ line ∷ []
+kept_line line counts = rw counts refl
+
 -- ---- one more line
 
 head_text : (line : List ℕ) (lines : List (List ℕ)) (rest : List ℕ)

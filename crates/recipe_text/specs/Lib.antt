@@ -1,4 +1,12 @@
+pub mod Answer
+pub mod CertReading
+pub mod CertRecipe
 pub mod KeyRecipe
 pub mod Lines
+pub mod OidReading
+pub mod PackageReading
+pub mod PackageRecipe
 pub mod Passing
 pub mod Reading
+pub mod Taking
+pub mod Words

@@ -39,7 +39,7 @@ fn ots_in(word: &[u8]) -> Option<OtsKind>
 
 // The octets of a word of HEX, where there are so many.
 #[tactic(auto, unfolding(crate::specs::Reading::decoded))]
-fn octets_in<const N: usize>(word: &[u8]) -> Option<[u8; N]>
+pub(crate) fn octets_in<const N: usize>(word: &[u8]) -> Option<[u8; N]>
     ensures exact { Answers (λ octets. octets) result (decoded N word.now) }
 {
     let mut octets = [0u8; N];

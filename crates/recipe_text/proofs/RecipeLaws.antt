@@ -1,0 +1,23 @@
+-- A recipe has no first bad line.
+use Rattle.std.proofs.Common.{ℕ, List}
+use Rattle.packager.specs.CertificatePlan.{CertificatePlan}
+use Rattle.packager.specs.PackagePlan.{PlannedPackage}
+use Rattle.recipe_text.specs.CertRecipe.{CertEntry, IsCertLine, IsCertFit, IsCertWhole, cert_parts, CertRecipe}
+use Rattle.recipe_text.specs.CertRecipe.{FirstBadCertLine}
+use Rattle.recipe_text.specs.PackageRecipe.{PackageEntry, IsPackageLine, IsPackageFit, IsPackageWhole, package_parts}
+use Rattle.recipe_text.specs.PackageRecipe.{PackageRecipe, FirstBadPackageLine}
+use Rattle.recipe_text.proofs.CertLines.{closed as cert_closed}
+use Rattle.recipe_text.proofs.Entries.{recipe_good}
+use Rattle.recipe_text.proofs.PackageLines.{closed as package_closed}
+
+pub certificate_has_no_bad_line : (text : List ℕ) (plan : CertificatePlan) (n : ℕ) → CertRecipe text plan
+    → FirstBadCertLine text n → ⊥
+certificate_has_no_bad_line text plan n recipe bad =
+    recipe_good {IsEntry = IsCertLine} {Fits = λ (es : List CertEntry). IsCertFit (cert_parts es)}
+    {Whole = λ (es : List CertEntry). IsCertWhole (cert_parts es)} cert_closed text n recipe.0 recipe.1 bad
+
+pub package_has_no_bad_line : (text : List ℕ) (plan : PlannedPackage) (n : ℕ) → PackageRecipe text plan
+    → FirstBadPackageLine text n → ⊥
+package_has_no_bad_line text plan n recipe bad =
+    recipe_good {IsEntry = IsPackageLine} {Fits = λ (es : List PackageEntry). IsPackageFit (package_parts es)}
+    {Whole = λ (es : List PackageEntry). IsPackageWhole (package_parts es)} package_closed text n recipe.0 recipe.1 bad

@@ -1,0 +1,18 @@
+use Rattle.std.proofs.Common.{ap, option_map, refl}
+use Rattle.recipe_text.specs.OidReading.{tail_text}
+use Rattle.recipe_text.proofs.Oids.{behind_on, behind_bad}
+use Rattle.recipe_text.proofs.oid_word.put_others.Goals as goal
+
+pub returns-in_default-number_in : goal.returns-in_default-number_in
+returns-in_default-number_in c = record {
+  spelled = behind_bad _ _ c.in-Some.text.now c.front_in.result.0.now c.args.out.now.items c.loop-rest.out.items
+      c.loop-rest.out.items _ (ap (λ o. tail_text (option_map (λ r. r.now) o)) c.in-Some.is) c.loop-rest.invariant
+      c.front_in.ensures.front c.in_default-number_in.ensures.exact;
+}
+
+pub loop-rest-preserved : goal.loop-rest-preserved
+loop-rest-preserved c =
+    behind_on _ _ c.in-Some.text.now c.front_in.result.0.now c.args.out.now.items c.loop-rest.out.items
+    c.put_subidentifier.new.out.items _ c.in-Some-number_in.number
+    (ap (λ o. tail_text (option_map (λ r. r.now) o)) c.in-Some.is) c.loop-rest.invariant c.front_in.ensures.front
+    ((c.in-Some-number_in.ensures.exact c.in-Some-number_in.number).0 refl) c.in_ok-put_subidentifier.ensures.ok

@@ -1,0 +1,149 @@
+// The words of lines, and the values that they stand for.
+ghost use Rattle.std.specs.Prelude.{◌≡◌, ◌↔◌, ◌≤◌, IsTrue, IfOk, option_map, length};
+ghost use Rattle.der_core.specs.Integer.{IsInteger};
+ghost use Rattle.packager.specs.PackagePlan.{IsCertificateText};
+ghost use Rattle.recipe_text.specs.Lines.{IsHex};
+ghost use Rattle.recipe_text.specs.Reading.{is_lead};
+ghost use Rattle.recipe_text.specs.Words.{Exactly, IsNumber, IsAt, IsHex64, IsSerialWord, IsKeyWord};
+ghost use Rattle.recipe_text.specs.Words.{AreConstraintsText, IsConstraintsWord, IsCertificateWord};
+
+use crate::key_line::octets_in;
+use cert_fields::{read_ccc, read_cert};
+use der_core::{Moment, Octets64, read_int_octets, read_time, tags};
+use hex::FromHexError;
+use hss_chain::{HssKey, hss_key};
+use std::alloc::{AllocError, Global};
+use std::str;
+
+// A decimal number below 2^128, without a leading zero.
+pub(crate) fn number_in(word: &[u8]) -> Option<u128>
+    ensures exact { Exactly (IsNumber word.now) result }
+{
+    if word == b"0".as_slice() {
+        return Some(0);
+    }
+    if !is_lead(word) {
+        return None;
+    }
+    match str::from_utf8(word) {
+        Ok(text) => text.parse().ok(),
+        Err(_) => None,
+    }
+}
+
+// Whether the first is a digit other than 0.
+#[tactic(auto, unfolding(crate::specs::Reading::is_lead))]
+fn is_lead(word: &[u8]) -> bool
+    ensures { result ≡ is_lead word.now }
+{
+    match word {
+        [first, ..] => *first >= b'1' && *first <= b'9',
+        [] => false,
+    }
+}
+
+// The moment that fourteen digits are: a GeneralizedTime without its Z (RFC 5280, section
+// 4.1.2.5.2).
+pub(crate) fn moment_in(word: &[u8]) -> Option<Moment>
+    ensures exact { Exactly (IsAt word.now) result }
+{
+    if word.len() != 14 {
+        return None;
+    }
+    let mut time = [b'Z'; 15];
+    time[..14].copy_from_slice(word);
+    read_time(tags::GENERALIZED_TIME, &time)
+}
+
+// The octets of HEX, of any number.
+pub(crate) fn hex_in(alloc: Global, word: &[u8]) -> Result<Option<Vec<u8>>, AllocError>
+    ensures exact { IfOk result (λ octets. Exactly (IsHex word.now) (option_map (λ o. o.items) octets)) }
+{
+    if word.is_empty() {
+        return Ok(None);
+    }
+    match hex::decode(alloc, word) {
+        Ok(octets) => Ok(Some(octets)),
+        Err(FromHexError::OutOfMemory) => Err(AllocError),
+        Err(_) => Ok(None),
+    }
+}
+
+// HEX of 1 to 64 octets.
+pub(crate) fn hex64_in(alloc: Global, word: &[u8]) -> Result<Option<Octets64>, AllocError>
+    ensures exact { IfOk result (λ octets. Exactly (IsHex64 word.now) octets) }
+{
+    match hex_in(alloc, word)? {
+        Some(octets) => Ok(Octets64::some(&octets)),
+        None => Ok(None),
+    }
+}
+
+// HEX of the contents of an INTEGER of at most 20 octets.
+pub(crate) fn serial_in(alloc: Global, word: &[u8]) -> Result<Option<Vec<u8>>, AllocError>
+    ensures exact { IfOk result (λ octets. Exactly (IsSerialWord word.now) (option_map (λ o. o.items) octets)) }
+{
+    let Some(octets) = hex_in(alloc, word)? else {
+        return Ok(None);
+    };
+    if !is_serial(&octets) {
+        return Ok(None);
+    }
+    Ok(Some(octets))
+}
+
+// Whether the octets are the contents of an INTEGER, and 20 at most.
+fn is_serial(octets: &[u8]) -> bool
+    ensures { IsTrue result ↔ (IsInteger octets.now × (length octets.now ≤ 20)) }
+{
+    octets.len() <= 20 && read_int_octets(octets).is_some()
+}
+
+// HEX of an HSS key.
+pub(crate) fn hss_key_in(word: &[u8]) -> Option<HssKey>
+    ensures exact { Exactly (IsKeyWord word.now) result }
+{
+    let octets = octets_in::<60>(word)?;
+    hss_key(&octets)
+}
+
+// HEX of one text of content constraints.
+pub(crate) fn constraints_in(alloc: Global, word: &[u8]) -> Result<Option<Vec<u8>>, AllocError>
+    ensures exact { IfOk result (λ octets. Exactly (IsConstraintsWord word.now) (option_map (λ o. o.items) octets)) }
+{
+    let Some(octets) = hex_in(alloc, word)? else {
+        return Ok(None);
+    };
+    let are = are_constraints(alloc, &octets)?;
+    if !are {
+        return Ok(None);
+    }
+    Ok(Some(octets))
+}
+
+// Whether the octets are a text of content constraints, all of them.
+fn are_constraints(alloc: Global, octets: &[u8]) -> Result<bool, AllocError>
+    ensures { IfOk result (λ are. IsTrue are ↔ AreConstraintsText octets.now) }
+{
+    Ok(read_ccc(alloc, octets)?.is_some())
+}
+
+// HEX of a certificate.
+pub(crate) fn certificate_in(alloc: Global, word: &[u8]) -> Result<Option<Vec<u8>>, AllocError>
+    ensures exact { IfOk result (λ octets. Exactly (IsCertificateWord word.now) (option_map (λ o. o.items) octets)) }
+{
+    let Some(octets) = hex_in(alloc, word)? else {
+        return Ok(None);
+    };
+    if !is_certificate(&octets) {
+        return Ok(None);
+    }
+    Ok(Some(octets))
+}
+
+// Whether the octets are a certificate, all of them.
+fn is_certificate(octets: &[u8]) -> bool
+    ensures { IsTrue result ↔ IsCertificateText octets.now }
+{
+    read_cert(octets).is_some()
+}
