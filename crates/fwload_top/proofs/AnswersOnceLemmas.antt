@@ -581,6 +581,25 @@ module _ (m : Meaning) {tc tm : Type 0} (source source' : Supply) (start : View)
         (poised m source source' start start o (quiet_none start honest) stays comes (λ r. was.end))
         (supplied source source' start input was may) honest status result replies has is
 
+-- it was read, and then an answer that leaves the cells was sent, or memory for its line was wanting
+module _ (m : Meaning) {tc tm T : Type 0} (source source' : Supply) (view : T → View) (old new : T)
+    (honest : IsHonest tc tm (view old)) (may : MayRead m tc (view old)) (input : List ℕ)
+    (was : WasRead source source' input) where
+  pub read_then_lacked : (result : Status) → (result ≡ NoMemory) × (new ≡ old)
+      → AnswersOnce m (seen tc tm result source source' (view old) (view new))
+  read_then_lacked result lacks =
+      subst (λ (s : Status). AnswersOnce m (seen tc tm s source source' (view old) (view new))) (sym lacks.0)
+      (subst (λ (b : T). AnswersOnce m (seen tc tm NoMemory source source' (view old) (view b))) (sym lacks.1)
+      (read_then_no_memory m source source' (view old) honest may input was))
+
+  pub read_then_said : (o : m.Outcome) → ComesTo (m.answer o) tc source.left (view old)
+      → ((c : List ℕ) → (m.answer o).after c c) → (m.answer o).status ≡ Refused → (result : Status)
+      → ((result ≡ NoMemory) × (new ≡ old)) ⊎ Replies tc tm Refused result (m.answer o).line (view old) (view new)
+      → AnswersOnce m (seen tc tm result source source' (view old) (view new))
+  read_then_said o comes stays is result (inl lacks) = read_then_lacked result lacks
+  read_then_said o comes stays is result (inr replies) =
+      read_then_sent m source source' (view old) honest may input was (view new) o comes stays Refused result replies tt is
+
 -- a run comes to what an answer for any board says of the input that was read
 pub on_any_board : {tc : Type 0} (source source' : Supply) (start : View) (status : Status) (line input : List ℕ)
     (P : List ℕ → Type 0) → WasRead source source' input → P input

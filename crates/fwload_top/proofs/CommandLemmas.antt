@@ -17,7 +17,13 @@ use Rattle.fwload_top.specs.Sigcheck.Outcome.{no_triple, no_key, good, bad}
 use Rattle.fwload_top.specs.Rehearse.{rehearse}
 use Rattle.fwload_top.specs.Rehearse.Outcome.{rehearsed}
 use Rattle.fwload_top.specs.KeyNew.{key_new, IsRecipe}
-use Rattle.fwload_top.specs.KeyNew.Outcome.{held, bad_line, small, made}
+use Rattle.fwload_top.specs.KeyNew.Outcome.{held, bad_line as bad_key_line, small, made}
+use Rattle.fwload_top.specs.declared.signing.Product.{Product}
+use Rattle.fwload_top.specs.declared.signing.Product.TheVariants.{Certificate, Package}
+use Rattle.fwload_top.specs.Signing as signings
+use Rattle.fwload_top.specs.Signing.{signing}
+use Rattle.fwload_top.specs.Signing.Outcome.{no_key, bad_line, all_spent, signed}
+use Rattle.fwload_top.proofs.SigningLemmas.{no_bad_line, some_left}
 use Rattle.fwload_top.proofs.TripleLaws.{one_triple}
 use Rattle.fwload_top.proofs.KeyNewLemmas.{recipe_has_no_bad_line}
 use Rattle.fwload_top.proofs.AnswersOnceLemmas.{NeverRefuses, completes, of_input}
@@ -55,12 +61,24 @@ rehearse_completes at r (rehearsed false lines) comes ready = tt
 
 key_new_completes : (r : Seen) → NeverRefuses key_new r
 key_new_completes r held comes ready = comes.cells ready.board.0 ready.board.1
-key_new_completes r (bad_line n) comes ready =
+key_new_completes r (bad_key_line n) comes ready =
     let is = (of_input r.source.left comes.input.0 (λ input. (length input ≤ input_limit) × IsRecipe input)
-    comes.input.2 (ready.input (bad_line n, tt, comes.cells))).1 in
+    comes.input.2 (ready.input (bad_key_line n, tt, comes.cells))).1 in
     recipe_has_no_bad_line comes.input.0 is.0 n is.1 comes.input.1.1
 key_new_completes r small comes ready = omega (arith, comes.blocks, ready.board.2)
 key_new_completes r (made key) comes ready = tt
+
+signing_completes : (p : Product) (r : Seen) → NeverRefuses (signing p) r
+signing_completes p r no_key comes ready = comes.cells ready.board.0 ready.board.1 ready.board.3.holds
+signing_completes p r (bad_line n) comes ready =
+    let is = (of_input r.source.left comes.input.0 (λ input. (length input ≤ input_limit) × signings.IsRecipe p input)
+    comes.input.2 (ready.input (bad_line n, tt, comes.cells))).1 in
+    no_bad_line p comes.input.0 is.0 n is.1 comes.input.1.1
+signing_completes p r all_spent comes ready =
+    let key = ready.board.1 in
+    some_left r.old.cells key ready.board.2 ready.board.3
+    ((comes.cells ready.board.0).1 key ready.board.3.holds)
+signing_completes p r (signed output key leaf) comes ready = tt
 
 -- ---- every command
 
@@ -73,12 +91,16 @@ not_usage commands.Ident r run is = no_usage r run is
 not_usage commands.Sigcheck r run is = no_usage r run is
 not_usage (commands.Rehearse at) r run is = no_usage r run is
 not_usage commands.KeyNew r run is = no_usage r run is
+not_usage commands.Issue r run is = no_usage r run is
+not_usage commands.Pack r run is = no_usage r run is
 
 pub causes_of : (c : Command) (r : Seen) → (promise c).Runs r → HasCauses (promise c).limit r
 causes_of commands.Ident r run = run.causes
 causes_of commands.Sigcheck r run = run.causes
 causes_of (commands.Rehearse at) r run = run.causes
 causes_of commands.KeyNew r run = run.causes
+causes_of commands.Issue r run = run.causes
+causes_of commands.Pack r run = run.causes
 
 -- over what it needs it comes to its end
 pub completes_command : (c : Command) (r : Seen) → (promise c).Runs r → (promise c).Ready r → Undisturbed r
@@ -88,6 +110,10 @@ completes_command commands.Sigcheck r run ready calm = completes sigcheck r (sig
 completes_command (commands.Rehearse at) r run ready calm =
     completes (rehearse at) r (rehearse_completes at r) run ready calm
 completes_command commands.KeyNew r run ready calm = completes key_new r (key_new_completes r) run ready calm
+completes_command commands.Issue r run ready calm =
+    completes (signing Certificate) r (signing_completes Certificate r) run ready calm
+completes_command commands.Pack r run ready calm =
+    completes (signing Package) r (signing_completes Package r) run ready calm
 
 -- what the command in hand leaves is what the one that is asked for leaves
 pub as_asked : (a b : Command) (r : Seen) → a ≡ b → (promise b).Runs r → (promise a).Runs r

@@ -2,6 +2,7 @@ pub mod WordsLemmas
 pub mod MomentLemmas
 pub mod AnswersOnceLemmas
 pub mod KeyNewLemmas
+pub mod SigningLemmas
 pub mod CommandLemmas
 pub mod VerdictLemmas
 pub mod RehearsalLemmas

@@ -36,6 +36,8 @@ pub no_moment : (word digits : List ℕ) → ((at : ℕ) → IsMoment at → dig
 no_moment word digits none commands.Ident named = one_or_two named.1
 no_moment word digits none commands.Sigcheck named = one_or_two named.1
 no_moment word digits none commands.KeyNew named = one_or_two named.1
+no_moment word digits none commands.Issue named = one_or_two named.1
+no_moment word digits none commands.Pack named = one_or_two named.1
 no_moment word digits none (commands.Rehearse at) named = none at named.0 (second named.1)
 
 -- the word `rehearse` with a moment's digits is the command of that moment alone
@@ -54,5 +56,7 @@ one_moment word digits at is reads c = ((λ e. subst (Denotes (word ∷ (digits 
     back commands.Ident named = absurd (one_or_two named.1)
     back commands.Sigcheck named = absurd (one_or_two named.1)
     back commands.KeyNew named = absurd (one_or_two named.1)
+    back commands.Issue named = absurd (one_or_two named.1)
+    back commands.Pack named = absurd (one_or_two named.1)
     back (commands.Rehearse other) named =
         ap (option_map (λ (t : ℕ). commands.Rehearse t)) ((reads other).1 (named.0, second named.1))

@@ -68,4 +68,6 @@ asks_none words two three c = ((λ e. absurd (none-some c e)), λ asks. absurd (
     other commands.Ident asks = two (size commands.Ident asks)
     other commands.Sigcheck asks = two (size commands.Sigcheck asks)
     other commands.KeyNew asks = two (size commands.KeyNew asks)
+    other commands.Issue asks = two (size commands.Issue asks)
+    other commands.Pack asks = two (size commands.Pack asks)
     other (commands.Rehearse at) asks = three (size (commands.Rehearse at) asks)

@@ -11,6 +11,8 @@ use Rattle.fwload_top.specs.Ident.{ident}
 use Rattle.fwload_top.specs.Sigcheck.{sigcheck}
 use Rattle.fwload_top.specs.Rehearse.{rehearse}
 use Rattle.fwload_top.specs.KeyNew.{key_new}
+use Rattle.fwload_top.specs.declared.signing.Product.TheVariants.{Certificate, Package}
+use Rattle.fwload_top.specs.Signing.{signing}
 
 -- The most octets of input that a command takes, what its run leaves, and what brings it to its end.
 pub record Promise : Type 1 where
@@ -31,3 +33,5 @@ promise commands.Ident = once ident
 promise commands.Sigcheck = once sigcheck
 promise (commands.Rehearse at) = once (rehearse at)
 promise commands.KeyNew = once key_new
+promise commands.Issue = once (signing Certificate)
+promise commands.Pack = once (signing Package)

@@ -1,7 +1,6 @@
 -- `key-new`: makes a board that nobody holds the board of the key whose recipe the input is. The lines are this
 -- project's own.
 use Rattle.std.specs.Prelude.{ℕ, ◌<◌, ◌≤◌, List, ◌++◌, codes}
-use Rattle.std.specs.Fmt.{decimal}
 use Rattle.edge_board.specs.Board.{Keeps}
 use Rattle.hex.specs.Hex.{encode_lower}
 use Rattle.hss_chain.specs.Keys.{hss_key_text}
@@ -14,6 +13,7 @@ use Rattle.bank_store.specs.Recovery.Holder.{nobody}
 use Rattle.bank_store.specs.Formats.{RecoversToNewKey}
 use Rattle.recipe_text.specs.KeyRecipe.{KeyRecipe, FirstBadKeyLine}
 use Rattle.fwload_top.specs.declared.status.Status.TheVariants.{Done, Refused}
+use Rattle.fwload_top.specs.BadLine.{line_refused}
 use Rattle.fwload_top.specs.Meaning.{Meaning, Answer, says, stay}
 use Rattle.fwload_top.specs.Meaning.Input.{unread, read}
 
@@ -41,10 +41,6 @@ IsRecipe input = (key : SignKey) × KeyRecipe input key
 abbrev pub made_line : SignKey → List ℕ
 made_line key = codes "key " ++ (encode_lower (hss_key_text (public_key key))
     ++ (codes " " ++ (encode_lower (key_id (public_key key)) ++ codes "\n")))
-
--- the line of a recipe whose first bad line is this one
-abbrev pub line_refused : ℕ → List ℕ
-line_refused n = codes "refused line " ++ (decimal n ++ codes "\n")
 
 -- ---- the answers
 

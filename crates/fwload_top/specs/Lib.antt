@@ -15,4 +15,6 @@ pub mod Verdicts
 pub mod VerdictView
 pub mod Rehearse
 pub mod Rehearsal
+pub mod BadLine
 pub mod KeyNew
+pub mod Signing

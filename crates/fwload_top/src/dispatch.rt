@@ -9,6 +9,7 @@ use crate::ident::ident;
 use crate::key_new::key_new;
 use crate::rehearse::rehearse;
 use crate::sigcheck::sigcheck;
+use crate::signing::{Product, sign};
 use crate::words::command_of;
 use crate::{Command, Status};
 use edge_board::{Board, Source};
@@ -67,5 +68,7 @@ fn obey<S: Source, B: Board>(
         Command::Sigcheck => sigcheck(alloc, source, board),
         Command::Rehearse(at) => rehearse(alloc, at, source, board),
         Command::KeyNew => key_new(alloc, source, board),
+        Command::Issue => sign(alloc, Product::Certificate, source, board),
+        Command::Pack => sign(alloc, Product::Package, source, board),
     }
 }

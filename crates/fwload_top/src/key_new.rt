@@ -1,20 +1,21 @@
 // The command `key-new`.
 ghost use Rattle.std.specs.Prelude.{ℕ, List};
 ghost use Rattle.edge_board.specs.Supply.{Supply};
-ghost use Rattle.recipe_text.specs.KeyRecipe.{FirstBadKeyLine, KeyRecipe};
+ghost use Rattle.recipe_text.specs.KeyRecipe.{KeyRecipe};
 ghost use Rattle.fwload_top.specs.Input.{WasRead};
 ghost use Rattle.fwload_top.specs.Seen.{seen};
 ghost use Rattle.fwload_top.specs.AnswersOnce.{AnswersOnce};
 ghost use Rattle.fwload_top.specs.KeyNew.{key_new, IsFree};
 
 use crate::Status;
+use crate::bad_line::refuse_line;
 use crate::input::read_input;
-use crate::key_line::{bad_line, made_line};
+use crate::key_line::made_line;
 use crate::reply::send_answer;
 use bank_store::{FormatFault, HolderFault, format_key, is_held};
 use edge_board::{Board, Source};
 use lms_sign::SignKey;
-use recipe_text::{BadLine, read_key_recipe};
+use recipe_text::read_key_recipe;
 use std::alloc::Global;
 
 // The answer where the board is held already.
@@ -49,19 +50,6 @@ fn new_key<S: Source, B: Board>(alloc: Global, source: &mut S, board: &mut B) ->
     match read_key_recipe(&input) {
         Ok(key) => make_key(alloc, board, &key),
         Err(bad) => refuse_line(alloc, board, bad),
-    }
-}
-
-// Says which line of the recipe is bad.
-fn refuse_line<B: Board>(alloc: Global, board: &mut B, bad: BadLine) -> Status
-    requires free { B.tells_cells → IsFree (B.view board.old).cells }
-    ensures runs { (source source' : Supply) (input : List ℕ) → WasRead source source' input
-        → FirstBadKeyLine input bad.0 → AnswersOnce key_new (seen B.tells_cells B.tells_moments
-        result source source' (B.view board.old) (B.view board.new)) }
-{
-    match bad_line(alloc, bad) {
-        Ok(line) => send_answer(board, line.as_bytes(), Status::Refused),
-        Err(_) => Status::NoMemory,
     }
 }
 

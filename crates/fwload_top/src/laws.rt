@@ -1,5 +1,8 @@
 // Laws of the definitions, which no call computes.
-ghost use Rattle.std.specs.Prelude.{◌≡◌, ℕ, Bool, List};
+ghost use Rattle.std.specs.Prelude.{◌≡◌, ◌⊎◌, ℕ, Bool, List, Option};
+ghost use Rattle.lms_sign.specs.declared.key.SignKey.{SignKey};
+ghost use Rattle.packager.specs.SigningRuns.{Output, Signs};
+ghost use Rattle.bank_store.specs.Recovery.{HoldsKey};
 ghost use Rattle.package_rules.specs.Module.{Module};
 ghost use Rattle.config_table.specs.State.{State};
 ghost use Rattle.config_table.specs.Stored.{Stored};
@@ -9,6 +12,12 @@ ghost use Rattle.fwload_top.specs.Meaning.{WritesNoFlash};
 ghost use Rattle.fwload_top.specs.Ident.{ident};
 ghost use Rattle.fwload_top.specs.Sigcheck.{sigcheck};
 ghost use Rattle.fwload_top.specs.Rehearse.{Rehearses, rehearse};
+ghost use Rattle.fwload_top.specs.AnswersOnce.{CutLeaves};
+ghost use Rattle.fwload_top.specs.declared.signing.Product.{Product};
+ghost use Rattle.fwload_top.specs.Signing.{signing, SignsNothing};
+
+use bank_store::each_image_has_one_holder;
+use edge_board::Board;
 
 /// A law: a set has one verdict at most over a state, and an input has one answer of `rehearse`.
 pub fn one_rehearsal()
@@ -25,3 +34,20 @@ pub fn no_flash_is_written()
     ensures sigcheck { WritesNoFlash sigcheck }
     ensures rehearse { (at : ℕ) → WritesNoFlash (rehearse at) }
 {}
+
+/// A law: whatever moment of `issue` or `pack` a power cut falls into, on a board that a key holds, the
+/// key still holds it, and the cells are as they were at the start with no signed octet sent, or the
+/// run so far is one that signs with the key's next leaf. Over all such runs `no_leaf_signs_twice` of
+/// `packager` is said.
+pub fn cuts_leave_signing_runs<B: Board>()
+    ensures runs { B.tells_cells → (p : Product) (left : Option (List ℕ)) (old : B) (key : SignKey)
+        → HoldsKey (B.view old).cells key → (image s : List ℕ)
+        → CutLeaves (signing p) B.tells_cells left (B.view old) image s
+        → SignsNothing (B.view old).cells image s ⊎ ((output : Output)
+        × Signs key output (record { start = (B.view old).cells; sent = s; left = image })) }
+    ensures holds { B.tells_cells → (p : Product) (left : Option (List ℕ)) (old : B) (key : SignKey)
+        → HoldsKey (B.view old).cells key → (image s : List ℕ)
+        → CutLeaves (signing p) B.tells_cells left (B.view old) image s → HoldsKey image key }
+{
+    each_image_has_one_holder();
+}

@@ -19,6 +19,10 @@ pub enum Command {
     Rehearse(Moment),
     /// Make a key board of a board that nobody holds, by the key recipe that the input is.
     KeyNew,
+    /// Sign the certificate of the recipe that the input is, with the next leaf of the board's key.
+    Issue,
+    /// Sign the package of the recipe that the input is, with the next leaf of the board's key.
+    Pack,
 }
 
 // The command that the words ask for: the flash file's name, and then the command's.
@@ -42,6 +46,10 @@ fn without_argument(word: &str) -> Option<Command>
         Some(Command::Sigcheck)
     } else if word == "key-new" {
         Some(Command::KeyNew)
+    } else if word == "issue" {
+        Some(Command::Issue)
+    } else if word == "pack" {
+        Some(Command::Pack)
     } else {
         None
     }

@@ -24,6 +24,8 @@ mod row;
 #[cfg(test)]
 mod sigcheck;
 #[cfg(test)]
+mod signing;
+#[cfg(test)]
 mod two_levels;
 #[cfg(test)]
 mod usage;

@@ -6,7 +6,7 @@ use std::process::Abort;
 use std::test::Fail;
 
 // The words as the program hands them over, parted by spaces: the flash file's name is the first.
-fn words_of(alloc: Global, text: &str) -> Result<Vec<String>, AllocError> {
+pub(crate) fn words_of(alloc: Global, text: &str) -> Result<Vec<String>, AllocError> {
     let mut words = Vec::new(alloc);
     for word in text.split(' ') {
         if !word.is_empty() {

@@ -17,3 +17,9 @@ returns-in-Rehearse g c = record {
 
 pub returns-in-KeyNew : goal.returns-in-KeyNew
 returns-in-KeyNew g c = record { runs = as_asked c.args.command commands.KeyNew _ c.in-KeyNew.is c.key_new.ensures.runs }
+
+pub returns-in-Issue : goal.returns-in-Issue
+returns-in-Issue g c = record { runs = as_asked c.args.command commands.Issue _ c.in-Issue.is c.sign.ensures.runs }
+
+pub returns-in-Pack : goal.returns-in-Pack
+returns-in-Pack g c = record { runs = as_asked c.args.command commands.Pack _ c.in-Pack.is c.sign-in-Pack.ensures.runs }
