@@ -1,0 +1,3 @@
+mod Advancing
+mod InstallMoments
+mod Keeping

@@ -1,0 +1,30 @@
+//! The store of a module: what its flash says, in memory, and installing a package under power cuts.
+//! The layout, the manifests and what a flash recovers to are those of `bank_layout`.
+//!
+//! - `Store` is a module, a sequence number, a state, the bank that runs, and the pool of its image
+//!   blocks. A valid one is `IsStore`, and that it is what an image recovers to is `IsStoreOf`, both
+//!   in `specs/Store`.
+//! - `prepare` makes the install of a package ready whose image stands in live blocks: the state with
+//!   the package, and the text of its manifest (`ready`, `made`). All memory is taken here.
+//! - `install` writes the manifest into the bank that doesn't run, behind its closed gate, and opens
+//!   the gate over it. At every moment of it a power cut leaves what was there, or what is installed,
+//!   the module and the row the same, and nothing was sent (`moments`). With Ok the board holds the
+//!   new state alone, and the store is valid and says so (`holds`, `standing`, `installed`, `valid`),
+//!   no block being live but those that the state names (`quiet`). It takes no memory, writes the
+//!   spare bank's blocks alone (`touches`), erases at most 34 of them (`erased`), and answers a fault
+//!   exactly where the board counted one (`cause`).
+//!
+//! Below it stand `bank_layout`, `bank_gate`, whose states keep the order of an install, `block_pool`,
+//! `content_stream` with what a stream hands on, `config_table` and `module_record`. The loader will
+//! stand above it.
+//!
+//! Opening a store from a board and formatting a board for a module aren't written yet. Whether the
+//! digest of a package is that of the octets in its blocks isn't asked: what is installed is the
+//! octets that the blocks hold.
+#![tactic(auto)]
+
+mod installing;
+mod store;
+
+pub use installing::{Ready, install, prepare};
+pub use store::Store;
