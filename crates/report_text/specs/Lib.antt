@@ -1,3 +1,4 @@
 pub mod Dotted
 pub mod Names
 pub mod Lines
+pub mod ListLines

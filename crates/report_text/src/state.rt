@@ -62,13 +62,21 @@ fn push_stale_entries(alloc: Global, text: &mut String, state: &State) -> Result
     Ok(())
 }
 
+// The lines of the packages, and then those of the stale entries.
+pub(crate) fn push_state(alloc: Global, text: &mut String, state: &State) -> Result<(), AllocError>
+    ensures ok { OnOk result
+        (string_bytes text.new ≡ string_bytes text.old ++ state_lines (lengths state.now)) }
+{
+    push_packages(alloc, text, state)?;
+    push_stale_entries(alloc, text, state)
+}
+
 // The lines, as a text of their own.
 fn lines_of(alloc: Global, state: &State) -> Result<String, AllocError>
     ensures lines { IfOk result (λ text. string_bytes text ≡ state_lines (lengths state.now)) }
 {
     let mut text = String::new(alloc);
-    push_packages(alloc, &mut text, state)?;
-    push_stale_entries(alloc, &mut text, state)?;
+    push_state(alloc, &mut text, state)?;
     Ok(text)
 }
 
