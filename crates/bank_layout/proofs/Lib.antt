@@ -13,3 +13,4 @@ mod PackageLaws
 mod TableLaws
 mod ManifestLaws
 mod Own
+mod ImageLengths

@@ -20,7 +20,7 @@ pub all_front : (P : ℕ → Type 0) (xs ys : List ℕ) → AllByRecursion P (xs
 all_front P [] ys p = tt
 all_front P (x ∷ xs) ys p = (p.0, all_front P xs ys p.1)
 
-all_back : (P : ℕ → Type 0) (xs ys : List ℕ) → AllByRecursion P (xs ++ ys) → AllByRecursion P ys
+pub all_back : (P : ℕ → Type 0) (xs ys : List ℕ) → AllByRecursion P (xs ++ ys) → AllByRecursion P ys
 all_back P [] ys p = p
 all_back P (x ∷ xs) ys p = all_back P xs ys p.1
 

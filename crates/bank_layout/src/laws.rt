@@ -13,7 +13,7 @@ ghost use Rattle.key_state.specs.KeyBlock.{row_of, row_start};
 ghost use Rattle.lms_sign.specs.PublicKeys.{leaf_count};
 ghost use Rattle.module_record.specs.ModuleRecord.{IsModule, module_text};
 ghost use Rattle.module_record.specs.declared.module.Module.{Module};
-ghost use Rattle.config_table.specs.State.{Entry, Offer, State, placed, with_package, after_package, empty_state};
+ghost use Rattle.config_table.specs.State.{Entry, Offer, State, placed, state_with, with_package, after_package, empty_state};
 ghost use Rattle.config_table.specs.Stored.{Stored};
 ghost use Rattle.bank_layout.specs.declared.bank.Bank.{Bank};
 ghost use Rattle.bank_layout.specs.declared.format.Format.{Format};
@@ -47,6 +47,15 @@ pub fn each_image_has_one_holder()
     one_module_record_each();
     records_tell_their_kind();
 }
+
+/// A law: the images of a module that an image recovers to have the lengths that the manifest in
+/// force gives them.
+pub fn images_have_their_lengths()
+    ensures lengths { (image : List ℕ) (m : Module) (running : Option Bank) (manifest : Manifest)
+        → HoldsModule image m running manifest
+        → state_with (λ (octets : List ℕ). length octets) (standing_of m manifest image).state
+        ≡ state_with (λ (stored : Stored). stored.length) manifest.state }
+{}
 
 /// A law: under a module each open gate is over a manifest, and what runs has the greatest sequence
 /// of them.

@@ -12,7 +12,8 @@
 //!   `size`), and none exactly where they aren't a module's own (`found`).
 //! - `one_manifest_each` and `each_image_has_one_holder` are the laws that octets begin with one
 //!   manifest at most and that an image has one holder at most (`one`, `store`).
-//!   `greatest_sequence_runs` says which of two manifests is in force (`over`, `greatest`).
+//!   `greatest_sequence_runs` says which of two manifests is in force (`over`, `greatest`), and
+//!   `images_have_their_lengths` that its images are as long as it says (`lengths`).
 //! - `unnamed_blocks_have_no_say`: image blocks that no running manifest names may change freely
 //!   (`holder`, `store`, `unnamed`). `rows_stand_apart` says the same of the row (`row`), and
 //!   `changes_behind_a_shut_gate` of the bank that doesn't run (`closing`, `shut`).
@@ -52,8 +53,8 @@ pub use format::Format;
 pub use laws::{
     a_fresh_module_is_empty, an_install_leaves_old_or_new, blocks_stay_apart,
     changes_behind_a_shut_gate, each_image_has_one_holder, greatest_sequence_runs,
-    installed_states_are_kept, manifests_fit, next_manifest_runs, one_manifest_each,
-    rows_stand_apart, unnamed_blocks_have_no_say, writing_leaves_old_or_new,
+    images_have_their_lengths, installed_states_are_kept, manifests_fit, next_manifest_runs,
+    one_manifest_each, rows_stand_apart, unnamed_blocks_have_no_say, writing_leaves_old_or_new,
 };
 pub use layout::{FACTORY, FIRST_IMAGE_BLOCK, KEY_BOARD_BLOCKS, RECORD};
 pub use named::pool_of;
