@@ -1,3 +1,5 @@
 mod Advancing
+mod Choices
 mod InstallMoments
 mod Keeping
+mod Owners

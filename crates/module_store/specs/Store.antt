@@ -6,10 +6,12 @@ use Rattle.config_table.specs.Names.{is_same}
 use Rattle.block_pool.specs.Pools.{IsLive, LiveExactly}
 use Rattle.config_table.specs.State.{Entry, Offer, with_package}
 use Rattle.config_table.specs.Stored.{Stored}
-use Rattle.module_record.specs.ModuleRecord.{IsModule}
+use Rattle.module_record.specs.ModuleRecord.{IsModule, BeginsWithModuleRecord}
+use Rattle.module_record.specs.declared.module.Module.{Module}
 use Rattle.bank_layout.specs.declared.bank.Bank.{Bank}
 use Rattle.bank_layout.specs.declared.format.Format.TheVariants as formats
-use Rattle.bank_layout.specs.Layout.{first_image_block}
+use Rattle.bank_gate.specs.States.{IsOpen}
+use Rattle.bank_layout.specs.Layout.{board_size, factory, first_image_block, record_octets}
 use Rattle.bank_layout.specs.Manifest.{Manifest, IsManifest, manifest_text, named_blocks}
 use Rattle.bank_layout.specs.Recovery.{HoldsModule, first_manifest}
 use Rattle.bank_layout.specs.Changes.{IsNew}
@@ -38,6 +40,17 @@ pub record IsStore (s : Store) : Type 0 where
 -- the store is the one that the image recovers to
 abbrev pub IsStoreOf : Store → List ℕ → Type 0
 IsStoreOf s image = HoldsModule image s.module s.running (manifest_of s)
+
+-- no module holds the image
+abbrev pub HoldsNoModule : List ℕ → Type 0
+HoldsNoModule image = (m : Module) (running : Option Bank) (manifest : Manifest) → ¬ HoldsModule image m running manifest
+
+-- The image is a module's, whatever its banks hold: it is large enough for the module, and the module's record stands
+-- behind the open factory gate.
+pub record IsOwnedBy (image : List ℕ) (m : Module) : Type 0 where
+  pub size : board_size m.capacity ≤ length image
+  pub gate : IsOpen factory image
+  pub text : BeginsWithModuleRecord (record_octets image) m
 
 -- the board has as many blocks as the store's module needs
 abbrev pub HasBlocks : Store → ℕ → Type 0
