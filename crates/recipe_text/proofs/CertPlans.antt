@@ -88,12 +88,12 @@ serial_short line e h = tt
 
 issuer_short : (line : List ℕ) (e : CertEntry) → IsCertLine line e
     → AllByRecursion (λ o. length o ≤ 2 ^ 16) (cert_part e).issuers
-issuer_short line (Issuer name) h = (name_size h.0 name h.1, tt)
+issuer_short line (Issuer name) h = (omega (arith, name_size h.0 name h.1), tt)
 issuer_short line e h = tt
 
 subject_short : (line : List ℕ) (e : CertEntry) → IsCertLine line e
     → AllByRecursion (λ o. length o ≤ 2 ^ 16) (cert_part e).subjects
-subject_short line (Subject name) h = (name_size h.0 name h.1, tt)
+subject_short line (Subject name) h = (omega (arith, name_size h.0 name h.1), tt)
 subject_short line e h = tt
 
 constraint_size : (line : List ℕ) (e : CertEntry) → IsCertLine line e

@@ -221,3 +221,14 @@ line_reads line None e key = (
   λ is. absurd (none-some key is),
   λ h. absurd (none-some (view key) (sym e ∙ key_of-line line key h)),
 )
+
+behind_so : (words : List ℕ) → key_of (spaced (codes "key" ∷ words ∷ [])) ≡ parts_of words
+unfolding key_of
+behind_so words = rw (cut_again 32 (codes "key") words key_only) refl
+
+-- the words behind `key` are read as the line is
+pub words_read : (words : List ℕ) (result : Option SignKey) → Answers view result (parts_of words)
+    → (key : SignKey) → (result ≡ Some key) ↔ IsKeyLine (spaced (codes "key" ∷ words ∷ [])) key
+words_read words result e =
+    let line = spaced (codes "key" ∷ words ∷ []) in
+    line_reads line result (subst (Answers view result) (sym (behind_so words)) e)

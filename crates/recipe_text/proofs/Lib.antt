@@ -1,3 +1,4 @@
+mod Anchors
 mod CertLines
 mod CertPlaces
 mod CertPlans
@@ -7,6 +8,9 @@ mod Entries
 mod Going
 mod KeyLines
 pub mod KeyRecipes
+mod ModuleLines
+mod ModulePlaces
+mod ModulePlans
 mod Names
 mod Oids
 mod PackageLines

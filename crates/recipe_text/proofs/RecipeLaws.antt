@@ -1,13 +1,17 @@
 -- A recipe has no first bad line.
 use Rattle.std.proofs.Common.{ℕ, List}
+use Rattle.module_record.specs.declared.module.Module.{Module}
 use Rattle.packager.specs.CertificatePlan.{CertificatePlan}
 use Rattle.packager.specs.PackagePlan.{PlannedPackage}
 use Rattle.recipe_text.specs.CertRecipe.{CertEntry, IsCertLine, IsCertFit, IsCertWhole, cert_parts, CertRecipe}
 use Rattle.recipe_text.specs.CertRecipe.{FirstBadCertLine}
+use Rattle.recipe_text.specs.ModuleRecipe.{ModuleEntry, IsModuleLine, IsModuleFit, IsModuleWhole, module_parts}
+use Rattle.recipe_text.specs.ModuleRecipe.{ModuleRecipe, FirstBadModuleLine}
 use Rattle.recipe_text.specs.PackageRecipe.{PackageEntry, IsPackageLine, IsPackageFit, IsPackageWhole, package_parts}
 use Rattle.recipe_text.specs.PackageRecipe.{PackageRecipe, FirstBadPackageLine}
 use Rattle.recipe_text.proofs.CertLines.{closed as cert_closed}
 use Rattle.recipe_text.proofs.Entries.{recipe_good}
+use Rattle.recipe_text.proofs.ModuleLines.{closed as module_closed}
 use Rattle.recipe_text.proofs.PackageLines.{closed as package_closed}
 
 pub certificate_has_no_bad_line : (text : List ℕ) (plan : CertificatePlan) (n : ℕ) → CertRecipe text plan
@@ -21,3 +25,9 @@ pub package_has_no_bad_line : (text : List ℕ) (plan : PlannedPackage) (n : ℕ
 package_has_no_bad_line text plan n recipe bad =
     recipe_good {IsEntry = IsPackageLine} {Fits = λ (es : List PackageEntry). IsPackageFit (package_parts es)}
     {Whole = λ (es : List PackageEntry). IsPackageWhole (package_parts es)} package_closed text n recipe.0 recipe.1 bad
+
+pub module_has_no_bad_line : (text : List ℕ) (owner : Module) (n : ℕ) → ModuleRecipe text owner
+    → FirstBadModuleLine text n → ⊥
+module_has_no_bad_line text owner n recipe bad =
+    recipe_good {IsEntry = IsModuleLine} {Fits = λ (es : List ModuleEntry). IsModuleFit (module_parts es)}
+    {Whole = λ (es : List ModuleEntry). IsModuleWhole (module_parts es)} module_closed text n recipe.0 recipe.1 bad

@@ -1,5 +1,5 @@
 -- What lines say together is no longer than they are.
-use Rattle.std.proofs.Common.{◌≡◌, ℕ, ◌*◌, ◌^◌, ◌≤◌, List, [], ◌∷◌, ◌++◌, length}
+use Rattle.std.proofs.Common.{◌≡◌, ℕ, ◌*◌, ◌≤◌, List, [], ◌∷◌, ◌++◌, length}
 use Rattle.std.proofs.Common.{ap, arith, length-append, inl, inr}
 use Rattle.std.specs.List.{AllByRecursion, AllZip, flat_map}
 use Rattle.std.proofs.lemmas.Bool.{cases_Bool}
@@ -79,24 +79,29 @@ recipe_all rules P part each text es r = zip_all rules.says P part each (kept r.
 pub hex_size : (word octets : List ℕ) → IsHex word octets → 2 * length octets ≡ length word
 hex_size word octets h = omega (arith, (decode_of-ok word octets h.1).2)
 
--- a name is short
-pub name_size : (word name : List ℕ) → IsNameWord word name → length name ≤ 2 ^ 16
-name_size word name h =
+-- what a Name holds is short
+pub name_contents_size : (word : List ℕ) → length word ≤ 64
+    → length (enc 0x31 (enc 0x30 (enc 0x06 common_name ++ enc 0x0C word))) ≤ 91
+name_contents_size word most =
     let inner : length (enc 0x06 common_name ++ enc 0x0C word) ≤ 79 =
     omega (
       arith,
-      h.most,
+      most,
       length-append (enc 0x06 common_name) (enc 0x0C word),
       length-enc-le 0x06 common_name (omega arith),
-      length-enc-le 0x0C word (omega (arith, h.most)),
+      length-enc-le 0x0C word (omega (arith, most)),
     ) in
     let one : length (enc 0x30 (enc 0x06 common_name ++ enc 0x0C word)) ≤ 85 =
     omega (arith, inner, length-enc-le 0x30 (enc 0x06 common_name ++ enc 0x0C word) (omega (arith, inner))) in
-    let two : length (enc 0x31 (enc 0x30 (enc 0x06 common_name ++ enc 0x0C word))) ≤ 91 =
-    omega (arith, one, length-enc-le 0x31 (enc 0x30 (enc 0x06 common_name ++ enc 0x0C word)) (omega (arith, one))) in
+    omega (arith, one, length-enc-le 0x31 (enc 0x30 (enc 0x06 common_name ++ enc 0x0C word)) (omega (arith, one)))
+
+-- a name is short
+pub name_size : (word name : List ℕ) → IsNameWord word name → length name ≤ 97
+name_size word name h =
+    let contents = name_contents_size word h.most in
     omega (
       arith,
-      two,
+      contents,
       ap length h.stands,
-      length-enc-le 0x30 (enc 0x31 (enc 0x30 (enc 0x06 common_name ++ enc 0x0C word))) (omega (arith, two)),
+      length-enc-le 0x30 (enc 0x31 (enc 0x30 (enc 0x06 common_name ++ enc 0x0C word))) (omega (arith, contents)),
     )

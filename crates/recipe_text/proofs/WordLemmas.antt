@@ -117,7 +117,7 @@ tells text IsValid octets (Some v) b is reads = (λ sure. let r = (reads v).0 re
 
 -- ---- keys
 
-key_size : (key : HssKey) → IsHssKey key → length (hss_key_text key) ≡ 60
+pub key_size : (key : HssKey) → IsHssKey key → length (hss_key_text key) ≡ 60
 key_size key valid = omega (arith, length-append key.top.id key.top.root, valid.top.id, valid.top.root)
 
 pub key_none : (word : List ℕ) → decoded 60 word ≡ None → Exactly (IsKeyWord word) None

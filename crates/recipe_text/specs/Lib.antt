@@ -3,6 +3,8 @@ pub mod CertReading
 pub mod CertRecipe
 pub mod KeyRecipe
 pub mod Lines
+pub mod ModuleReading
+pub mod ModuleRecipe
 pub mod OidReading
 pub mod PackageReading
 pub mod PackageRecipe

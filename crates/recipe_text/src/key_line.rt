@@ -1,10 +1,12 @@
 // The line of a key.
-ghost use Rattle.std.specs.Prelude.{◌≡◌, ◌↔◌, ◌≤◌, Some, IfSome};
+ghost use Rattle.std.specs.Prelude.{◌≡◌, ◌↔◌, ◌≤◌, ◌∷◌, [], Some, IfSome, codes};
 ghost use Rattle.der_core.specs.Reads.{Answers};
 ghost use Rattle.lms_verify.specs.Kinds.{height};
 ghost use Rattle.module_record.specs.Reading.{view};
 ghost use Rattle.recipe_text.specs.KeyRecipe.{IsKeyLine};
+ghost use Rattle.recipe_text.specs.Lines.{spaced};
 ghost use Rattle.recipe_text.specs.Reading.{tree_of, ots_of, decoded, parts_of, key_of};
+ghost use Rattle.recipe_text.specs.Words.{Exactly};
 
 use crate::cut::cut_at;
 use lms_sign::SignKey;
@@ -80,4 +82,11 @@ pub(crate) fn key_on(line: &[u8]) -> Option<SignKey>
     ensures spelled { (key : SignKey) → (result ≡ Some key) ↔ IsKeyLine line.now key }
 {
     read_line(line)
+}
+
+// The key of a key line whose words behind `key` these are, and none where it isn't one.
+pub(crate) fn key_behind(words: &[u8]) -> Option<SignKey>
+    ensures spelled { Exactly (IsKeyLine (spaced (codes "key" ∷ words.now ∷ []))) result }
+{
+    key_in(words)
 }
