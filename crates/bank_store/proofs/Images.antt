@@ -13,7 +13,7 @@ use Rattle.lms_sign.specs.declared.key.SignKey.{SignKey}
 use Rattle.lms_sign.specs.PublicKeys.{IsSignKey, leaf_count}
 use Rattle.module_record.specs.KeyRecord.{key_record_text, BeginsWithKeyRecord}
 use Rattle.module_record.proofs.KeyLaws.{key_size}
-use Rattle.bank_store.specs.Layout.{factory, record_octets, record_start, key_board_size}
+use Rattle.bank_layout.specs.Layout.{factory, record_octets, record_start, key_board_size}
 use Rattle.bank_store.specs.Formats.{RecoversToNewKey}
 
 -- ---- records

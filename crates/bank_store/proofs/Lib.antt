@@ -2,3 +2,4 @@ mod Images
 mod Reading
 mod Moments
 mod Holders
+mod Writing

@@ -1,28 +1,22 @@
--- Where the parts of a key board lie, in blocks of 4,096 octets. The layout is this project's own.
-use Rattle.std.specs.Prelude.{ℕ, ◌<◌, List, take, drop}
-use Rattle.edge_board.specs.Board.{Within}
+-- Which parts of a board a format for a module writes. The layout is that of bank_layout.
+use Rattle.std.specs.Prelude.{◌⊎◌, ℕ}
+use Rattle.edge_board.specs.Board.{InBlock}
 use Rattle.bank_gate.specs.declared.place.Place.{Place}
+use Rattle.bank_layout.specs.declared.bank.Bank.TheVariants as banks
+use Rattle.bank_layout.specs.Layout.{InKeyBody, gate_block}
 
--- The factory's bank: its gate is block 0, its record lies in blocks 1 to 16, and block 17 is the key block.
-abbrev pub factory : Place
-factory = record { gate = 0; manifest = 1; manifest_blocks = 16; area = 17; area_blocks = 1 }
+-- The factory's bank, with an area of so many blocks from the key block on. One block makes it that of a key board.
+abbrev pub factory_with : ℕ → Place
+factory_with n = record { gate = 0; manifest = 1; manifest_blocks = 16; area = 17; area_blocks = n }
 
--- the position of the record
-abbrev pub record_start : ℕ
-record_start = 4096
+-- The same as a format for a module writes it: the area reaches from the key block to the gate's block of bank 1.
+abbrev pub module_factory : Place
+module_factory = factory_with 35
 
--- the octets of blocks 1 to 16
-abbrev pub record_octets : List ℕ → List ℕ
-record_octets image = take 65536 (drop record_start image)
+-- one of the positions of blocks 1 to 17, or of the blocks of the two banks' gates
+abbrev pub InModuleBody : ℕ → Type 0
+InModuleBody i = InKeyBody i ⊎ (InBlock (gate_block banks.Zero) i ⊎ InBlock (gate_block banks.One) i)
 
--- the octets of a key board's 18 blocks
-abbrev pub key_board_size : ℕ
-key_board_size = 73728
-
--- one of the positions of blocks 1 to 17
-abbrev pub InKeyBody : ℕ → Type 0
-InKeyBody i = Within record_start 69632 i
-
--- one of the positions of blocks 0 to 17
-abbrev pub InKeyBoard : ℕ → Type 0
-InKeyBoard i = i < key_board_size
+-- the same, or one of the positions of block 0
+abbrev pub InModuleFormat : ℕ → Type 0
+InModuleFormat i = InBlock 0 i ⊎ InModuleBody i

@@ -1,4 +1,3 @@
 pub mod Layout
-pub mod Recovery
 pub mod Formats
 pub mod Faults

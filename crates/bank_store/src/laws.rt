@@ -5,15 +5,13 @@ ghost use Rattle.bank_gate.specs.States.{IsOpen};
 ghost use Rattle.key_state.specs.KeyBlock.{row_of};
 ghost use Rattle.lms_sign.specs.declared.key.SignKey.{SignKey};
 ghost use Rattle.lms_sign.specs.PublicKeys.{leaf_count};
-ghost use Rattle.bank_store.specs.Layout.{factory, key_board_size, InKeyBoard};
-ghost use Rattle.bank_store.specs.Recovery.{Holder, HoldsKey, Recovers};
-ghost use Rattle.bank_store.specs.Recovery.Holder.{nobody};
+ghost use Rattle.bank_layout.specs.Layout.{factory, key_board_size, InKeyBoard};
+ghost use Rattle.bank_layout.specs.Recovery.{Holder, HoldsKey, Recovers};
+ghost use Rattle.bank_layout.specs.Recovery.Holder.{nobody};
 
-/// A law: each image recovers to one holder.
-pub fn each_image_has_one_holder()
-    ensures some { (image : List ℕ) → (holder : Holder) × Recovers image holder }
-    ensures one { (image : List ℕ) (first second : Holder) → Recovers image first
-        → Recovers image second → first ≡ second }
+/// A law: no image is without a holder. That it has one at most is a law of `bank_layout`.
+pub fn no_image_is_without_a_holder()
+    ensures some { (image : List ℕ) → ¬ ((holder : Holder) → ¬ Recovers image holder) }
 {}
 
 /// A law: nobody holds a board whose factory gate isn't open, or that has too few blocks.

@@ -1,26 +1,28 @@
 // Who holds a board, and opening one.
-ghost use Rattle.std.specs.Prelude.{◌≡◌, ◌≤◌, ◌<◌, ◌↔◌, IfOk, IfSome, IfNone, IsErr, IsErrOf, OnOk, true, false};
+ghost use Rattle.std.specs.Prelude.{◌≡◌, ◌≤◌, ◌<◌, ◌↔◌, IfOk, IfSome, IfNone, IsErr, IsErrOf, IsOk, OnOk, true, false};
 ghost use Rattle.edge_board.specs.Causes.{HasCause, Rose};
 ghost use Rattle.edge_board.specs.Board.{IsSettled, Nowhere};
 ghost use Rattle.edge_board.specs.Runs.{LeavesOnly, Touches};
 ghost use Rattle.lms_sign.specs.declared.key.SignKey.{SignKey};
-ghost use Rattle.bank_store.specs.Recovery.{HoldsKey, Recovers, IsHeld};
-ghost use Rattle.bank_store.specs.Recovery.Holder.{nobody};
+ghost use Rattle.bank_layout.specs.Recovery.{HoldsKey, Recovers, IsHeld};
+ghost use Rattle.bank_layout.specs.Recovery.Holder.{nobody};
+ghost use Rattle.module_store.specs.Store.{HoldsNoModule};
 
-use crate::layout::{FACTORY, KEY_BOARD_BLOCKS, RECORD};
 use crate::{HolderFault, KeyFault};
 use bank_gate::{Fault, is_open};
+use bank_layout::{FACTORY, KEY_BOARD_BLOCKS, RECORD};
 use edge_board::Board;
 use lms_sign::SignKey;
 use module_record::read_key_record;
+use module_store::{OpenFault, Store, open};
 use std::alloc::Global;
 
 // more octets than a key record has
 const FRONT: usize = 128;
 
-/// Whether somebody holds the board. It begins with a `sync`. A module's record will take memory; a
-/// key's takes none.
-pub fn is_held<B: Board>(_alloc: Global, board: &mut B) -> Result<bool, HolderFault>
+/// Whether somebody holds the board: a key or a module. It begins with a `sync`. Where no key holds
+/// it, what is read of a module takes memory.
+pub fn is_held<B: Board>(alloc: Global, board: &mut B) -> Result<bool, HolderFault>
     ensures held { B.tells_cells
         → IfOk result (λ held. (held ≡ true) ↔ IsHeld (B.view board.old).cells) }
     ensures nobody { B.tells_cells
@@ -45,7 +47,47 @@ pub fn is_held<B: Board>(_alloc: Global, board: &mut B) -> Result<bool, HolderFa
     ensures fault { IsErrOf result HolderFault.Fault
         → Rose (B.view board.old).faults (B.view board.new).faults }
 {
-    Ok(held_key(board)?.is_some())
+    if held_key(board)?.is_some() {
+        return Ok(true);
+    }
+    is_modules(alloc, board)
+}
+
+// Whether a module holds the board, after a sync.
+fn is_modules<B: Board>(alloc: Global, board: &mut B) -> Result<bool, HolderFault>
+    ensures held { B.tells_cells → IfOk result (λ held. held ≡ true
+        → ¬ HoldsNoModule (B.view board.old).cells) }
+    ensures none { B.tells_cells → IfOk result (λ held. held ≡ false
+        → HoldsNoModule (B.view board.old).cells) }
+    ensures blocks { IfOk result (λ held. held ≡ true → 18 ≤ (B.view board.new).blocks) }
+    ensures memory { IsErrOf result HolderFault.Memory → 18 ≤ (B.view board.new).blocks }
+    ensures unchanged { B.tells_cells → (B.view board.new).cells ≡ (B.view board.old).cells }
+    ensures settled { B.tells_cells → ¬ IsErrOf result HolderFault.Fault
+        → IsSettled (B.view board.new) }
+    ensures touches { Touches B.tells_cells Nowhere (B.view board.old) (B.view board.new) }
+    ensures erased { (B.view board.new).erased ≡ (B.view board.old).erased }
+    ensures later { (B.view board.old).faults ≤ (B.view board.new).faults }
+    ensures calm { ¬ IsErrOf result HolderFault.Fault
+        → (B.view board.new).faults ≡ (B.view board.old).faults }
+    ensures fault { IsErrOf result HolderFault.Fault
+        → Rose (B.view board.old).faults (B.view board.new).faults }
+{
+    told_by(open(alloc, board))
+}
+
+// Whether a store was opened, where that is known.
+fn told_by(opened: Result<Store, OpenFault>) -> Result<bool, HolderFault>
+    ensures held { IfOk result (λ held. held ≡ true → IsOk opened) }
+    ensures none { IfOk result (λ held. held ≡ false → IsErrOf opened OpenFault.NotAModule) }
+    ensures fault { IsErrOf result HolderFault.Fault ↔ IsErrOf opened OpenFault.Fault }
+    ensures memory { IsErrOf result HolderFault.Memory → IsErrOf opened OpenFault.Memory }
+{
+    match opened {
+        Ok(_) => Ok(true),
+        Err(OpenFault::NotAModule) => Ok(false),
+        Err(OpenFault::Fault) => Err(HolderFault::Fault),
+        Err(OpenFault::Memory) => Err(HolderFault::Memory),
+    }
 }
 
 /// Reads the key of a key board. It begins with a `sync`.

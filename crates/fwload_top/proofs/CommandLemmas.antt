@@ -16,8 +16,12 @@ use Rattle.fwload_top.specs.Sigcheck.{sigcheck, Triple}
 use Rattle.fwload_top.specs.Sigcheck.Outcome.{no_triple, no_key, good, bad}
 use Rattle.fwload_top.specs.Rehearse.{rehearse}
 use Rattle.fwload_top.specs.Rehearse.Outcome.{rehearsed}
-use Rattle.fwload_top.specs.KeyNew.{key_new, IsRecipe}
-use Rattle.fwload_top.specs.KeyNew.Outcome.{held, bad_line as bad_key_line, small, made}
+use Rattle.fwload_top.specs.declared.making.HolderKind.{HolderKind}
+use Rattle.fwload_top.specs.declared.making.HolderKind.TheVariants as holder_kinds
+use Rattle.fwload_top.specs.Making.{making, HasForm}
+use Rattle.fwload_top.specs.Making.Outcome.{held, bad_line as bad_holder_line, small, made}
+use Rattle.fwload_top.specs.List.{list}
+use Rattle.fwload_top.specs.List.Outcome.{no_module, listed}
 use Rattle.fwload_top.specs.declared.signing.Product.{Product}
 use Rattle.fwload_top.specs.declared.signing.Product.TheVariants.{Certificate, Package}
 use Rattle.fwload_top.specs.Signing as signings
@@ -25,7 +29,7 @@ use Rattle.fwload_top.specs.Signing.{signing}
 use Rattle.fwload_top.specs.Signing.Outcome.{no_key, bad_line, all_spent, signed}
 use Rattle.fwload_top.proofs.SigningLemmas.{no_bad_line, some_left}
 use Rattle.fwload_top.proofs.TripleLaws.{one_triple}
-use Rattle.fwload_top.proofs.KeyNewLemmas.{recipe_has_no_bad_line}
+use Rattle.fwload_top.proofs.MakingLemmas as makings
 use Rattle.fwload_top.proofs.AnswersOnceLemmas.{NeverRefuses, completes, of_input}
 
 -- the command that was found is the one that is asked for
@@ -59,14 +63,23 @@ rehearse_completes : (at : ℕ) (r : Seen) → NeverRefuses (rehearse at) r
 rehearse_completes at r (rehearsed true lines) comes ready = tt
 rehearse_completes at r (rehearsed false lines) comes ready = tt
 
-key_new_completes : (r : Seen) → NeverRefuses key_new r
-key_new_completes r held comes ready = comes.cells ready.board.0 ready.board.1
-key_new_completes r (bad_key_line n) comes ready =
-    let is = (of_input r.source.left comes.input.0 (λ input. (length input ≤ input_limit) × IsRecipe input)
-    comes.input.2 (ready.input (bad_key_line n, tt, comes.cells))).1 in
-    recipe_has_no_bad_line comes.input.0 is.0 n is.1 comes.input.1.1
-key_new_completes r small comes ready = omega (arith, comes.blocks, ready.board.2)
-key_new_completes r (made key) comes ready = tt
+making_completes : (kind : HolderKind) (r : Seen) → NeverRefuses (making kind) r
+making_completes kind r held comes ready = comes.cells ready.board.0 ready.board.1
+making_completes kind r (bad_holder_line n) comes ready =
+    let is = (of_input r.source.left comes.input.0
+    (λ input. (length input ≤ input_limit) × HasForm kind r.old.blocks input)
+    comes.input.2 (ready.input (bad_holder_line n, tt, comes.cells))).1.0 in
+    makings.no_bad_line kind comes.input.0 is.0 n is.1 comes.input.1.1
+making_completes kind r (small holder) comes ready =
+    let form = (of_input r.source.left comes.input.0
+    (λ input. (length input ≤ input_limit) × HasForm kind r.old.blocks input)
+    comes.input.2 (ready.input (small holder, tt, comes.cells))).1 in
+    omega (arith, comes.blocks, form.1 holder comes.input.1.1)
+making_completes kind r (made holder) comes ready = tt
+
+list_completes : (r : Seen) → NeverRefuses list r
+list_completes r no_module comes ready = comes.cells ready.board.0 ready.board.1 ready.board.2 ready.board.3
+list_completes r (listed m sequence spent state) comes ready = tt
 
 signing_completes : (p : Product) (r : Seen) → NeverRefuses (signing p) r
 signing_completes p r no_key comes ready = comes.cells ready.board.0 ready.board.1 ready.board.3.holds
@@ -91,6 +104,8 @@ not_usage commands.Ident r run is = no_usage r run is
 not_usage commands.Sigcheck r run is = no_usage r run is
 not_usage (commands.Rehearse at) r run is = no_usage r run is
 not_usage commands.KeyNew r run is = no_usage r run is
+not_usage commands.Make r run is = no_usage r run is
+not_usage commands.List r run is = no_usage r run is
 not_usage commands.Issue r run is = no_usage r run is
 not_usage commands.Pack r run is = no_usage r run is
 
@@ -99,6 +114,8 @@ causes_of commands.Ident r run = run.causes
 causes_of commands.Sigcheck r run = run.causes
 causes_of (commands.Rehearse at) r run = run.causes
 causes_of commands.KeyNew r run = run.causes
+causes_of commands.Make r run = run.causes
+causes_of commands.List r run = run.causes
 causes_of commands.Issue r run = run.causes
 causes_of commands.Pack r run = run.causes
 
@@ -109,7 +126,11 @@ completes_command commands.Ident r run ready calm = completes ident r (ident_com
 completes_command commands.Sigcheck r run ready calm = completes sigcheck r (sigcheck_completes r) run ready calm
 completes_command (commands.Rehearse at) r run ready calm =
     completes (rehearse at) r (rehearse_completes at r) run ready calm
-completes_command commands.KeyNew r run ready calm = completes key_new r (key_new_completes r) run ready calm
+completes_command commands.KeyNew r run ready calm =
+    completes (making holder_kinds.Key) r (making_completes holder_kinds.Key r) run ready calm
+completes_command commands.Make r run ready calm =
+    completes (making holder_kinds.Module) r (making_completes holder_kinds.Module r) run ready calm
+completes_command commands.List r run ready calm = completes list r (list_completes r) run ready calm
 completes_command commands.Issue r run ready calm =
     completes (signing Certificate) r (signing_completes Certificate r) run ready calm
 completes_command commands.Pack r run ready calm =

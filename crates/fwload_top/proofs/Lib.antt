@@ -1,7 +1,8 @@
 pub mod WordsLemmas
 pub mod MomentLemmas
 pub mod AnswersOnceLemmas
-pub mod KeyNewLemmas
+pub mod BadLineLemmas
+pub mod MakingLemmas
 pub mod SigningLemmas
 pub mod CommandLemmas
 pub mod VerdictLemmas

@@ -36,6 +36,8 @@ pub no_moment : (word digits : List ℕ) → ((at : ℕ) → IsMoment at → dig
 no_moment word digits none commands.Ident named = one_or_two named.1
 no_moment word digits none commands.Sigcheck named = one_or_two named.1
 no_moment word digits none commands.KeyNew named = one_or_two named.1
+no_moment word digits none commands.Make named = one_or_two named.1
+no_moment word digits none commands.List named = one_or_two named.1
 no_moment word digits none commands.Issue named = one_or_two named.1
 no_moment word digits none commands.Pack named = one_or_two named.1
 no_moment word digits none (commands.Rehearse at) named = none at named.0 (second named.1)
@@ -56,6 +58,8 @@ one_moment word digits at is reads c = ((λ e. subst (Denotes (word ∷ (digits 
     back commands.Ident named = absurd (one_or_two named.1)
     back commands.Sigcheck named = absurd (one_or_two named.1)
     back commands.KeyNew named = absurd (one_or_two named.1)
+    back commands.Make named = absurd (one_or_two named.1)
+    back commands.List named = absurd (one_or_two named.1)
     back commands.Issue named = absurd (one_or_two named.1)
     back commands.Pack named = absurd (one_or_two named.1)
     back (commands.Rehearse other) named =

@@ -1,6 +1,6 @@
 -- What spending a leaf leaves, as a part of the run of a command that signs.
 use Rattle.std.proofs.Common.{◌≡◌, ◌∙◌, ◌⊎◌, ℕ, ◌+◌, ◌<◌, ◌≤◌, List, [], length, take, Option}
-use Rattle.std.proofs.Common.{Err, refl, sym, subst, ap, inl, inr, ⊎_elim, arith}
+use Rattle.std.proofs.Common.{refl, sym, subst, ap, inl, inr, ⊎_elim, arith}
 use Rattle.std.proofs.lemmas.Bool.{cases_lt}
 use Rattle.edge_board.specs.Supply.{Supply}
 use Rattle.edge_board.specs.Board.{View, Keeps, Nowhere, IsSettled, IsHonest, cell}
@@ -12,17 +12,14 @@ use Rattle.key_state.specs.KeyBlock.{row_of, row_start, IsLeafCount, FirstUnspen
 use Rattle.key_state.proofs.Rows.{row_fits, row_length}
 use Rattle.lms_sign.specs.declared.key.SignKey.{SignKey}
 use Rattle.lms_sign.specs.PublicKeys.{leaf_count}
-use Rattle.recipe_text.specs.declared.bad_line.RecipeFault.{RecipeFault}
-use Rattle.recipe_text.specs.declared.bad_line.RecipeFault.TheVariants as faults
-use Rattle.recipe_text.specs.Answer.{Refuses}
 use Rattle.packager.specs.SigningRuns.{SigningRun, Signs, Output, output_text}
 use Rattle.packager.specs.SigningRuns.Output.{Certifies, Packs}
 use Rattle.recipe_text.proofs.RecipeLaws.{certificate_has_no_bad_line, package_has_no_bad_line}
 use Rattle.module_record.specs.KeyRecord.{BeginsWithKeyRecord}
-use Rattle.bank_store.specs.Layout.{record_start}
-use Rattle.bank_store.specs.Recovery.{HoldsKey}
-use Rattle.bank_store.specs.Recovery.{Holder, Recovers}
-use Rattle.bank_store.specs.Recovery.Holder.{key_board}
+use Rattle.bank_layout.specs.Layout.{record_start}
+use Rattle.bank_layout.specs.Recovery.{HoldsKey}
+use Rattle.bank_layout.specs.Recovery.{Holder, Recovers}
+use Rattle.bank_layout.specs.Recovery.Holder.{key_board}
 use Rattle.lms_verify.specs.declared.kind.LmsKind.{LmsKind}
 use Rattle.lms_verify.specs.declared.kind.LmsKind.TheVariants.{H5, H10, H15, H20, H25}
 use Rattle.lms_verify.specs.Kinds.{height}
@@ -31,11 +28,11 @@ use Rattle.std.proofs.Common.{◌^◌, drop, length-take, length-drop, get_or-ta
 use Rattle.fwload_top.specs.declared.signing.Product.{Product}
 use Rattle.fwload_top.specs.declared.signing.Product.TheVariants.{Certificate, Package}
 use Rattle.fwload_top.specs.declared.status.Status.TheVariants.{KeySpent}
-use Rattle.fwload_top.specs.BadLine.{line_refused, IsBad}
+use Rattle.fwload_top.specs.BadLine.{line_refused}
 use Rattle.fwload_top.specs.Input.{WasRead}
 use Rattle.fwload_top.specs.Seen.{seen}
 use Rattle.fwload_top.specs.AnswersOnce.{ComesTo, MayRead, CutInAnswer, CutLeaves, AnswersOnce}
-use Rattle.fwload_top.specs.Signing.{IsRecipeOf, IsBadAt, IsRecipe, IsNext, SignsNothing, IsFoundBad, answer, signing}
+use Rattle.fwload_top.specs.Signing.{IsRecipeOf, IsBadAt, IsRecipe, IsNext, SignsNothing, answer, signing}
 use Rattle.fwload_top.specs.Signing.Outcome.{no_key, bad_line, all_spent, signed}
 use Rattle.fwload_top.proofs.AnswersOnceLemmas.{Quiet, Wrote, Poised, quiet_touched, wrote_before, wrote_unchanged, poised}
 use Rattle.fwload_top.proofs.AnswersOnceLemmas.{supplied, has_input, silent_run}
@@ -183,17 +180,6 @@ no_bad_line Certificate input (Certifies plan) n recipe bad = certificate_has_no
 no_bad_line Certificate input (Packs plan) n recipe bad = recipe
 no_bad_line Package input (Certifies plan) n recipe bad = recipe
 no_bad_line Package input (Packs plan) n recipe bad = package_has_no_bad_line input plan n recipe bad
-
--- a fault of a reader tells why
-pub found_bad : (P : Type 0) (p : Product) (input : List ℕ) (fault : RecipeFault)
-    → Refuses {P = P} (Err fault) (IsBadAt p input) → IsFoundBad p input fault
-found_bad P p input (faults.Bad line) refuses = (refuses line.0).0 refl
-found_bad P p input faults.Memory refuses = tt
-
-pub bad_at : (p : Product) (input : List ℕ) (fault : RecipeFault) (n : ℕ) → IsFoundBad p input fault → IsBad fault n
-    → IsBadAt p input n
-bad_at p input (faults.Bad line) n found is = subst (IsBadAt p input) is found
-bad_at p input faults.Memory n found is = absurd is
 
 -- ---- what a power cut leaves is a signing run
 

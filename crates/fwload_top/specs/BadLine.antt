@@ -12,3 +12,8 @@ line_refused n = codes "refused line " ++ (decimal n ++ codes "\n")
 abbrev pub IsBad : RecipeFault → ℕ → Type 0
 IsBad (faults.Bad bad) n = bad.0 ≡ n
 IsBad faults.Memory n = ⊥
+
+-- a line is bad in this way, or memory was wanting
+abbrev pub IsFoundBad : (ℕ → Type 0) → RecipeFault → Type 0
+IsFoundBad bad_at (faults.Bad bad) = bad_at bad.0
+IsFoundBad bad_at faults.Memory = Unit {0}

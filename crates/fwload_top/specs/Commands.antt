@@ -10,7 +10,9 @@ use Rattle.fwload_top.specs.AnswersOnce.{AnswersOnce, IsReady}
 use Rattle.fwload_top.specs.Ident.{ident}
 use Rattle.fwload_top.specs.Sigcheck.{sigcheck}
 use Rattle.fwload_top.specs.Rehearse.{rehearse}
-use Rattle.fwload_top.specs.KeyNew.{key_new}
+use Rattle.fwload_top.specs.declared.making.HolderKind.TheVariants as holder_kinds
+use Rattle.fwload_top.specs.Making.{making}
+use Rattle.fwload_top.specs.List.{list}
 use Rattle.fwload_top.specs.declared.signing.Product.TheVariants.{Certificate, Package}
 use Rattle.fwload_top.specs.Signing.{signing}
 
@@ -32,6 +34,8 @@ abbrev pub promise : Command → Promise
 promise commands.Ident = once ident
 promise commands.Sigcheck = once sigcheck
 promise (commands.Rehearse at) = once (rehearse at)
-promise commands.KeyNew = once key_new
+promise commands.KeyNew = once (making holder_kinds.Key)
+promise commands.Make = once (making holder_kinds.Module)
+promise commands.List = once list
 promise commands.Issue = once (signing Certificate)
 promise commands.Pack = once (signing Package)

@@ -16,5 +16,6 @@ pub mod VerdictView
 pub mod Rehearse
 pub mod Rehearsal
 pub mod BadLine
-pub mod KeyNew
+pub mod Making
+pub mod List
 pub mod Signing

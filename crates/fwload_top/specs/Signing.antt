@@ -10,11 +10,9 @@ use Rattle.lms_sign.specs.SignTexts.{sign_text}
 use Rattle.packager.specs.SigningRuns.{Output, output_text}
 use Rattle.packager.specs.SigningRuns.Output.{Certifies, Packs}
 use Rattle.packager.specs.Unsigned.{Parts}
-use Rattle.bank_store.specs.Recovery.{HoldsKey}
+use Rattle.bank_layout.specs.Recovery.{HoldsKey}
 use Rattle.recipe_text.specs.CertRecipe.{CertRecipe, FirstBadCertLine}
 use Rattle.recipe_text.specs.PackageRecipe.{PackageRecipe, FirstBadPackageLine}
-use Rattle.recipe_text.specs.declared.bad_line.RecipeFault.{RecipeFault}
-use Rattle.recipe_text.specs.declared.bad_line.RecipeFault.TheVariants as faults
 use Rattle.fwload_top.specs.declared.signing.Product.{Product}
 use Rattle.fwload_top.specs.declared.signing.Product.TheVariants.{Certificate, Package}
 use Rattle.fwload_top.specs.declared.status.Status.TheVariants.{Done, Refused, NotAModule, KeySpent}
@@ -117,8 +115,3 @@ pub record IsToSign (p : Product) (input : List ℕ) (key : SignKey) (unsigned :
   pub recipe : IsRecipeOf p input output
   pub text : (leaf : ℕ) → leaf < leaf_count key
       → unsigned.before ++ sign_text key leaf unsigned.signed ≡ output_text key output leaf
-
--- a line of the recipe is bad, or memory was wanting
-abbrev pub IsFoundBad : Product → List ℕ → RecipeFault → Type 0
-IsFoundBad p input (faults.Bad bad) = IsBadAt p input bad.0
-IsFoundBad p input faults.Memory = Unit {0}

@@ -12,6 +12,8 @@ abbrev pub words_of : Command → List (List ℕ)
 words_of commands.Ident = codes "ident" ∷ []
 words_of commands.Sigcheck = codes "sigcheck" ∷ []
 words_of commands.KeyNew = codes "key-new" ∷ []
+words_of commands.Make = codes "make" ∷ []
+words_of commands.List = codes "list" ∷ []
 words_of commands.Issue = codes "issue" ∷ []
 words_of commands.Pack = codes "pack" ∷ []
 words_of (commands.Rehearse at) = codes "rehearse" ∷ last_digits 14 at ∷ []
@@ -21,6 +23,8 @@ abbrev pub IsCommand : Command → Type 0
 IsCommand commands.Ident = Unit {0}
 IsCommand commands.Sigcheck = Unit {0}
 IsCommand commands.KeyNew = Unit {0}
+IsCommand commands.Make = Unit {0}
+IsCommand commands.List = Unit {0}
 IsCommand commands.Issue = Unit {0}
 IsCommand commands.Pack = Unit {0}
 IsCommand (commands.Rehearse at) = IsMoment at

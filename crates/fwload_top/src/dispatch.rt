@@ -6,7 +6,8 @@ ghost use Rattle.fwload_top.specs.HasCauses.{HasCauses};
 ghost use Rattle.fwload_top.specs.Commands.{promise, Completes};
 
 use crate::ident::ident;
-use crate::key_new::key_new;
+use crate::list::list;
+use crate::making::{HolderKind, make};
 use crate::rehearse::rehearse;
 use crate::sigcheck::sigcheck;
 use crate::signing::{Product, sign};
@@ -67,7 +68,9 @@ fn obey<S: Source, B: Board>(
         Command::Ident => ident(alloc, source, board),
         Command::Sigcheck => sigcheck(alloc, source, board),
         Command::Rehearse(at) => rehearse(alloc, at, source, board),
-        Command::KeyNew => key_new(alloc, source, board),
+        Command::KeyNew => make(alloc, HolderKind::Key, source, board),
+        Command::Make => make(alloc, HolderKind::Module, source, board),
+        Command::List => list(alloc, board),
         Command::Issue => sign(alloc, Product::Certificate, source, board),
         Command::Pack => sign(alloc, Product::Package, source, board),
     }

@@ -2,7 +2,7 @@
 ghost use Rattle.std.specs.Prelude.{◌≡◌, ◌⊎◌, ℕ, Bool, List, Option};
 ghost use Rattle.lms_sign.specs.declared.key.SignKey.{SignKey};
 ghost use Rattle.packager.specs.SigningRuns.{Output, Signs};
-ghost use Rattle.bank_store.specs.Recovery.{HoldsKey};
+ghost use Rattle.bank_layout.specs.Recovery.{HoldsKey};
 ghost use Rattle.package_rules.specs.Module.{Module};
 ghost use Rattle.config_table.specs.State.{State};
 ghost use Rattle.config_table.specs.Stored.{Stored};
@@ -12,11 +12,12 @@ ghost use Rattle.fwload_top.specs.Meaning.{WritesNoFlash};
 ghost use Rattle.fwload_top.specs.Ident.{ident};
 ghost use Rattle.fwload_top.specs.Sigcheck.{sigcheck};
 ghost use Rattle.fwload_top.specs.Rehearse.{Rehearses, rehearse};
+ghost use Rattle.fwload_top.specs.List.{list};
 ghost use Rattle.fwload_top.specs.AnswersOnce.{CutLeaves};
 ghost use Rattle.fwload_top.specs.declared.signing.Product.{Product};
 ghost use Rattle.fwload_top.specs.Signing.{signing, SignsNothing};
 
-use bank_store::each_image_has_one_holder;
+use bank_layout::each_image_has_one_holder;
 use edge_board::Board;
 
 /// A law: a set has one verdict at most over a state, and an input has one answer of `rehearse`.
@@ -28,11 +29,12 @@ pub fn one_rehearsal()
         → (one ≡ other) × (refuses ≡ refuses') }
 {}
 
-/// A law: `ident`, `sigcheck` and `rehearse` write no flash.
+/// A law: `ident`, `sigcheck`, `rehearse` and `list` write no flash.
 pub fn no_flash_is_written()
     ensures ident { WritesNoFlash ident }
     ensures sigcheck { WritesNoFlash sigcheck }
     ensures rehearse { (at : ℕ) → WritesNoFlash (rehearse at) }
+    ensures list { WritesNoFlash list }
 {}
 
 /// A law: whatever moment of `issue` or `pack` a power cut falls into, on a board that a key holds, the

@@ -26,19 +26,23 @@
 //! - `rehearse` prints the verdict on each attribute set of the input, over what the accepted ones
 //!   before it have installed, and then what is installed (RFC 4108, section 2.2). A set has one
 //!   verdict at most over a state, and an input one answer: that is the law `one_rehearsal`.
-//! - `key-new` makes a key board of a board that nobody holds.
+//! - `key-new` makes a key board of a board that nobody holds, and `make` a module's.
+//! - `list` prints the module that holds the board, how far it has come, and what is installed.
 //! - `issue` and `pack` send the certificate and the package whose recipe the input is, signed with
 //!   the next leaf of the key that holds the board (RFC 5280, section 4.1; RFC 4108, section 2). What a
 //!   power cut at any moment of them leaves is a run that signs with that leaf, or one that signs
 //!   nothing: that is the law `cuts_leave_signing_runs` (`runs`, `holds`), and over all such runs
 //!   `no_leaf_signs_twice` of `packager` is said.
-//! - `ident`, `sigcheck` and `rehearse` write no flash: that is the law `no_flash_is_written`.
+//! - `ident`, `sigcheck`, `rehearse` and `list` write no flash: that is the law
+//!   `no_flash_is_written`.
 //!
 //! Below it stand `edge_board` (the source and the board), `attribute_set` and `package_attrs`
 //! (attributes, identifiers and packages), `config_table` and `package_rules` (the tables and the
 //! rules over them), `report_text` (lines), `hss_chain` (signatures), `lms_sign` (signing keys),
-//! `recipe_text` (recipes), `packager` (certificates and packages), `key_state` (leaves) and
-//! `bank_store` (who holds a board, and formats). The program `fwload` hands it the words, standard input and the flash; the crate `run_rows` has its tests.
+//! `recipe_text` (recipes), `packager` (certificates and packages), `key_state` (leaves),
+//! `bank_store` (whether a board is held, and formats), `module_store` (the store of a module) and
+//! `bank_layout` (what a flash recovers to). The program `fwload` hands it the words, standard input
+//! and the flash; the crate `run_rows` has its tests.
 //!
 //! What was read is known only of a source that tells what it has left, and the cells and moments
 //! of a run only of a board that tells them. Images are known where nothing was pending at the
@@ -56,8 +60,9 @@ mod ident;
 mod identity;
 mod input;
 mod key_line;
-mod key_new;
 mod laws;
+mod list;
+mod making;
 mod rehearsal;
 mod rehearse;
 mod reply;
@@ -70,6 +75,7 @@ mod words;
 
 pub use dispatch::run;
 pub use laws::{cuts_leave_signing_runs, no_flash_is_written, one_rehearsal};
+pub use making::{HolderKind, NewHolder};
 pub use signing::Product;
 pub use status::Status;
 pub use words::Command;

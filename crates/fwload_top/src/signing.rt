@@ -3,18 +3,20 @@ ghost use Rattle.std.specs.Prelude.{◌≡◌, ◌≤◌, ℕ, List, length, IfO
 ghost use Rattle.edge_board.specs.Supply.{Supply};
 ghost use Rattle.lms_sign.specs.PublicKeys.{hss_signature_size};
 ghost use Rattle.packager.specs.SigningRuns.{Output};
-ghost use Rattle.bank_store.specs.Recovery.{HoldsKey};
+ghost use Rattle.bank_layout.specs.Recovery.{HoldsKey};
 ghost use Rattle.fwload_top.specs.Input.{WasRead};
 ghost use Rattle.fwload_top.specs.Meaning.{input_limit};
 ghost use Rattle.fwload_top.specs.Seen.{seen};
 ghost use Rattle.fwload_top.specs.AnswersOnce.{AnswersOnce};
-ghost use Rattle.fwload_top.specs.Signing.{signing, IsToSign, IsFoundBad};
+ghost use Rattle.fwload_top.specs.BadLine.{IsFoundBad};
+ghost use Rattle.fwload_top.specs.Signing.{signing, IsBadAt, IsToSign};
 
 use crate::Status;
 use crate::bad_line::refuse;
 use crate::input::read_input;
 use crate::reply::send_answer;
-use bank_store::{KeyFault, each_image_has_one_holder, open_key};
+use bank_layout::each_image_has_one_holder;
+use bank_store::{KeyFault, open_key};
 use edge_board::{Board, Source};
 use key_state::{SpendFault, spend};
 use lms_sign::{SignKey, leaf_count};
@@ -83,7 +85,7 @@ fn unsigned(
     ensures size { IfOk result (λ unsigned. unsigned.size ≡ hss_signature_size key.now) }
     ensures to_sign { IfOk result (λ unsigned. (output : Output)
         × IsToSign product recipe.now key.now unsigned output) }
-    ensures bad { IfErr result (IsFoundBad product recipe.now) }
+    ensures bad { IfErr result (IsFoundBad (IsBadAt product recipe.now)) }
 {
     finished_is_the_output();
     match product {

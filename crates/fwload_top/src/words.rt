@@ -19,6 +19,10 @@ pub enum Command {
     Rehearse(Moment),
     /// Make a key board of a board that nobody holds, by the key recipe that the input is.
     KeyNew,
+    /// Make a module's board of a board that nobody holds, by the module recipe that the input is.
+    Make,
+    /// Print the module that holds the board, and what is installed.
+    List,
     /// Sign the certificate of the recipe that the input is, with the next leaf of the board's key.
     Issue,
     /// Sign the package of the recipe that the input is, with the next leaf of the board's key.
@@ -46,6 +50,10 @@ fn without_argument(word: &str) -> Option<Command>
         Some(Command::Sigcheck)
     } else if word == "key-new" {
         Some(Command::KeyNew)
+    } else if word == "make" {
+        Some(Command::Make)
+    } else if word == "list" {
+        Some(Command::List)
     } else if word == "issue" {
         Some(Command::Issue)
     } else if word == "pack" {

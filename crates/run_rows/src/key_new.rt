@@ -129,17 +129,17 @@ fn one_fails(rt: &impl Abort, alloc: Global, call: u64) -> Result<(), AllocError
     let mut failing = Vec::new(alloc);
     failing.push(call)?;
     let mut board = MemBoard::new(alloc, 18, failing, 1000, 1000)?;
-    if call == 29 {
+    if call == 33 {
         says(rt, alloc, RECIPE, &[], &mut board, Status::Done, MADE)
     } else {
         says(rt, alloc, RECIPE, &[], &mut board, Status::DeviceFault, "")
     }
 }
 
-// Each of the 29 calls fails alone, and is not tried again.
+// Each of the 33 calls fails alone, and is not tried again.
 #[test]
 fn a_call_that_fails_ends_it(rt: HostRuntime) -> Result<(), Fail> {
-    for call in 0..=29 {
+    for call in 0..=33 {
         one_fails(&rt, rt.alloc(), call)?;
     }
     Ok(())
@@ -171,7 +171,7 @@ fn holds(
     pick: Pick,
     wanted: bool,
 ) -> Result<(), AllocError> {
-    let (status, sent) = if calls == 29 {
+    let (status, sent) = if calls == 33 {
         (Status::Done, MADE)
     } else {
         (Status::DeviceFault, "")
@@ -183,28 +183,29 @@ fn holds(
     Ok(())
 }
 
-// The calls are those of opening, a sync and a read, then 26 of the format, and the send. The gate
-// may be open once its block was erased, or programmed, without a sync.
+// The first calls ask for a key and for a module, a sync and a read each; then come 28 of the
+// format, which asks again, and the send. The gate may be open once its block was erased, or
+// programmed, without a sync.
 #[test]
 fn a_cut_keeps_pending_cells(rt: HostRuntime) -> Result<(), Fail> {
-    for calls in 0..=29 {
-        holds(&rt, rt.alloc(), calls, Pick::Keep, calls >= 27)?;
+    for calls in 0..=33 {
+        holds(&rt, rt.alloc(), calls, Pick::Keep, calls >= 31)?;
     }
     Ok(())
 }
 
 #[test]
 fn a_cut_undoes_pending_cells(rt: HostRuntime) -> Result<(), Fail> {
-    for calls in 0..=29 {
-        holds(&rt, rt.alloc(), calls, Pick::Before, calls >= 28)?;
+    for calls in 0..=33 {
+        holds(&rt, rt.alloc(), calls, Pick::Before, calls >= 32)?;
     }
     Ok(())
 }
 
 #[test]
 fn a_cut_fills_pending_cells(rt: HostRuntime) -> Result<(), Fail> {
-    for calls in 0..=29 {
-        let wanted = calls >= 27 || calls == 25;
+    for calls in 0..=33 {
+        let wanted = calls >= 31 || calls == 29;
         holds(&rt, rt.alloc(), calls, Pick::Fill(0x0f), wanted)?;
     }
     Ok(())
@@ -212,8 +213,8 @@ fn a_cut_fills_pending_cells(rt: HostRuntime) -> Result<(), Fail> {
 
 #[test]
 fn a_cut_zeroes_pending_cells(rt: HostRuntime) -> Result<(), Fail> {
-    for calls in 0..=29 {
-        holds(&rt, rt.alloc(), calls, Pick::Fill(0), calls >= 28)?;
+    for calls in 0..=33 {
+        holds(&rt, rt.alloc(), calls, Pick::Fill(0), calls >= 32)?;
     }
     Ok(())
 }

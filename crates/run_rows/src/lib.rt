@@ -16,6 +16,8 @@ mod ident;
 #[cfg(test)]
 mod key_new;
 #[cfg(test)]
+mod module;
+#[cfg(test)]
 mod package_set;
 #[cfg(test)]
 mod rehearse;

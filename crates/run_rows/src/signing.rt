@@ -262,7 +262,7 @@ fn a_leaf_that_was_seen_is_spent(rt: HostRuntime) -> Result<(), Fail> {
     Ok(())
 }
 
-// One call fails, of which the first 29 are those of `key-new`, and the next run signs with this
+// One call fails, of which the first 33 are those of `key-new`, and the next run signs with this
 // leaf.
 fn one_fails(
     rt: &impl Abort,
@@ -281,11 +281,11 @@ fn one_fails(
 
 #[test]
 fn a_call_that_fails_ends_it(rt: HostRuntime) -> Result<(), Fail> {
-    for call in 29..=33 {
+    for call in 33..=37 {
         one_fails(&rt, rt.alloc(), call, Pick::Keep, 0)?;
     }
-    one_fails(&rt, rt.alloc(), 34, Pick::Keep, 1)?;
-    one_fails(&rt, rt.alloc(), 34, Pick::Before, 0)?;
-    one_fails(&rt, rt.alloc(), 35, Pick::Before, 1)?;
+    one_fails(&rt, rt.alloc(), 38, Pick::Keep, 1)?;
+    one_fails(&rt, rt.alloc(), 38, Pick::Before, 0)?;
+    one_fails(&rt, rt.alloc(), 39, Pick::Before, 1)?;
     Ok(())
 }

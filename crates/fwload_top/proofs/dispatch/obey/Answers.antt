@@ -16,7 +16,15 @@ returns-in-Rehearse g c = record {
 }
 
 pub returns-in-KeyNew : goal.returns-in-KeyNew
-returns-in-KeyNew g c = record { runs = as_asked c.args.command commands.KeyNew _ c.in-KeyNew.is c.key_new.ensures.runs }
+returns-in-KeyNew g c = record { runs = as_asked c.args.command commands.KeyNew _ c.in-KeyNew.is c.make.ensures.runs }
+
+pub returns-in-Make : goal.returns-in-Make
+returns-in-Make g c = record { runs = as_asked c.args.command commands.Make _ c.in-Make.is c.make-in-Make.ensures.runs }
+
+pub returns-in-List : goal.returns-in-List
+returns-in-List g c = record {
+  runs = as_asked c.args.command commands.List _ c.in-List.is (c.list.ensures.runs (g.S.Source.supply c.args.source.now));
+}
 
 pub returns-in-Issue : goal.returns-in-Issue
 returns-in-Issue g c = record { runs = as_asked c.args.command commands.Issue _ c.in-Issue.is c.sign.ensures.runs }

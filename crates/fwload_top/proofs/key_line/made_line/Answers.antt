@@ -1,16 +1,7 @@
-use Rattle.std.proofs.Common.{string_bytes, ◌∙◌, ap}
-use Rattle.hex.specs.Hex.{encode_lower}
-use Rattle.hss_chain.specs.Keys.{hss_key_text}
-use Rattle.lms_sign.specs.PublicKeys.{key_id}
-use Rattle.lms_sign.specs.Roots.{public_key}
-use Rattle.fwload_top.proofs.KeyNewLemmas.{line_of_parts}
 use Rattle.fwload_top.proofs.key_line.made_line.Goals as goal
 
-pub returns : goal.returns
-returns c =
-    let is = c.public-public_key.ensures.value in
-    line_of_parts c.format.result (string_bytes c.in_ok-octets.octets) (string_bytes c.in_ok-id.id)
-    (encode_lower (hss_key_text (public_key c.args.key.now))) (encode_lower (key_id (public_key c.args.key.now)))
-    (c.in_ok-octets.ensures ∙ ap encode_lower (c.key_octets.ensures.text ∙ ap hss_key_text is))
-    (c.in_ok-id.ensures ∙ ap encode_lower (c.key_id.ensures.value ∙ ap key_id is))
-    c.format.ensures.ok
+pub returns-in-Key : goal.returns-in-Key
+returns-in-Key c = record { line = rw c.in-Key.is c.key_line.ensures.line }
+
+pub returns-in-Module : goal.returns-in-Module
+returns-in-Module c = record { line = rw c.in-Module.is c.key_line-in-Module.ensures.line }

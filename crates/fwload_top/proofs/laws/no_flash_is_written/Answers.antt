@@ -6,6 +6,8 @@ use Rattle.fwload_top.specs.Sigcheck.{sigcheck}
 use Rattle.fwload_top.specs.Sigcheck.Outcome.{no_triple, no_key, good, bad}
 use Rattle.fwload_top.specs.Rehearse.{rehearse}
 use Rattle.fwload_top.specs.Rehearse.Outcome.{rehearsed}
+use Rattle.fwload_top.specs.List.{list}
+use Rattle.fwload_top.specs.List.Outcome.{no_module, listed}
 use Rattle.fwload_top.proofs.laws.no_flash_is_written.Goals as goal
 
 ident_writes_none : WritesNoFlash ident
@@ -21,6 +23,10 @@ sigcheck_writes_none bad start image = ((λ is. is), λ is. is)
 rehearse_writes_none : (at : ℕ) → WritesNoFlash (rehearse at)
 rehearse_writes_none at (rehearsed refuses lines) start image = ((λ is. is), λ is. is)
 
+list_writes_none : WritesNoFlash list
+list_writes_none no_module start image = ((λ is. is), λ is. is)
+list_writes_none (listed m sequence spent state) start image = ((λ is. is), λ is. is)
+
 pub returns-clause-ident : goal.returns-clause-ident
 returns-clause-ident c = ident_writes_none
 
@@ -29,3 +35,6 @@ returns-clause-sigcheck c = sigcheck_writes_none
 
 pub returns-clause-rehearse : goal.returns-clause-rehearse
 returns-clause-rehearse c = rehearse_writes_none
+
+pub returns-clause-list : goal.returns-clause-list
+returns-clause-list c = list_writes_none

@@ -1,11 +1,11 @@
 use Rattle.std.proofs.Common.{◌≡◌, List, ℕ, Err, refl, ap, subst, sym}
 use Rattle.bank_store.specs.declared.fault.KeyFault.{KeyFault}
 use Rattle.bank_store.specs.declared.fault.KeyFault.TheVariants as faults
-use Rattle.bank_store.specs.Recovery.{HoldsKey}
+use Rattle.bank_layout.specs.Recovery.{HoldsKey}
 use Rattle.fwload_top.specs.declared.status.Status.TheVariants.{NotAModule}
 use Rattle.fwload_top.specs.Signing.{signing}
 use Rattle.fwload_top.specs.Signing.Outcome.{no_key}
-use Rattle.fwload_top.proofs.KeyNewLemmas.{ok_no_err, other_err}
+use Rattle.fwload_top.proofs.MakingLemmas.{ok_no_err, other_err}
 use Rattle.fwload_top.proofs.AnswersOnceLemmas.{quiet_touched, wrote_unchanged, poised, supplied_none, failed_run}
 use Rattle.fwload_top.proofs.AnswersOnceLemmas.{silent_run, run_after}
 use Rattle.fwload_top.proofs.signing.sign.Goals as goal

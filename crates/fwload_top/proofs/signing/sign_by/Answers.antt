@@ -1,8 +1,10 @@
 use Rattle.std.proofs.Common.{List, ℕ, refl, subst, ⊎_elim}
 use Rattle.fwload_top.specs.declared.status.Status.TheVariants.{Refused}
-use Rattle.fwload_top.specs.Signing.{signing, IsToSign, IsFoundBad, IsBadAt}
+use Rattle.fwload_top.specs.BadLine.{IsFoundBad}
+use Rattle.fwload_top.specs.Signing.{signing, IsToSign, IsBadAt}
 use Rattle.fwload_top.specs.Signing.Outcome.{bad_line}
-use Rattle.fwload_top.proofs.SigningLemmas.{may_read, bad_at}
+use Rattle.fwload_top.proofs.SigningLemmas.{may_read}
+use Rattle.fwload_top.proofs.BadLineLemmas.{found_at}
 use Rattle.fwload_top.proofs.AnswersOnceLemmas.{not_read, has_input, read_then_lacked, read_then_sent}
 use Rattle.fwload_top.proofs.signing.sign_by.Goals as goal
 
@@ -32,7 +34,7 @@ returns g c =
     let may = may_read c.args.product start c.args.key.now c.requires.key in
     let input = c.in-Ok.input.items in
     let was = c.in-Ok.ensures.read in
-    let found = subst (λ (l : List ℕ). IsFoundBad c.args.product l c.in-Err-unsigned.fault) c.deref.ensures.value
+    let found = subst (λ (l : List ℕ). IsFoundBad (IsBadAt c.args.product l) c.in-Err-unsigned.fault) c.deref.ensures.value
     c.in-Err-unsigned.ensures.bad in record {
       runs = ⊎_elim
           (λ lacks. read_then_lacked (signing c.args.product) source source' g.B.Board.view c.args.board.now
@@ -42,7 +44,7 @@ returns g c =
             cells = λ told. (c.args.key.now, c.requires.key told);
             blocks = c.requires.blocks;
             input = has_input source source' input (λ input. IsBadAt c.args.product input said.0) was
-                (bad_at c.args.product input c.in-Err-unsigned.fault said.0 found said.1);
+                (found_at (IsBadAt c.args.product input) c.in-Err-unsigned.fault said.0 found said.1);
           }) (λ cells. refl) Refused c.refuse.result said.2 tt refl)
           c.refuse.ensures.said;
     }

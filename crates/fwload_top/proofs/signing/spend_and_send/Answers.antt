@@ -6,7 +6,7 @@ use Rattle.fwload_top.specs.declared.status.Status.TheVariants.{Done}
 use Rattle.fwload_top.specs.Reply.{Replies}
 use Rattle.fwload_top.specs.Signing.{signing}
 use Rattle.fwload_top.specs.Signing.Outcome.{signed}
-use Rattle.fwload_top.proofs.KeyNewLemmas.{ok_no_err, other_err}
+use Rattle.fwload_top.proofs.MakingLemmas.{ok_no_err, other_err}
 use Rattle.fwload_top.proofs.SigningLemmas.{one_key, may_read, spend_wrote, spend_done, none_was_left}
 use Rattle.fwload_top.proofs.AnswersOnceLemmas.{supplied, failed_run, line_run}
 use Rattle.fwload_top.proofs.signing.spend_and_send.Goals as goal

@@ -5,17 +5,18 @@ use Rattle.packager.specs.declared.certificate_plan.CertPlan.{CertPlan}
 use Rattle.packager.specs.declared.package_plan.PackagePlan.{PackagePlan}
 use Rattle.packager.specs.SigningRuns.Output.{Certifies, Packs}
 use Rattle.fwload_top.specs.declared.signing.Product.TheVariants.{Certificate, Package}
-use Rattle.fwload_top.proofs.SigningLemmas.{found_bad}
+use Rattle.fwload_top.specs.Signing.{IsBadAt}
+use Rattle.fwload_top.proofs.BadLineLemmas.{found_bad}
 use Rattle.fwload_top.proofs.signing.unsigned.Goals as goal
 
 pub returns-in-Err-clause-bad : goal.returns-in-Err-clause-bad
 returns-in-Err-clause-bad c =
-    rw c.in-Certificate.is (found_bad CertPlan Certificate c.args.recipe.now c.in-Err.fault c.in-Err.ensures.bad)
+    rw c.in-Certificate.is (found_bad CertPlan (IsBadAt Certificate c.args.recipe.now) c.in-Err.fault c.in-Err.ensures.bad)
 
 pub returns-in-Err-read_package_recipe-clause-bad : goal.returns-in-Err-read_package_recipe-clause-bad
 returns-in-Err-read_package_recipe-clause-bad c =
     let failed = c.in-Err-read_package_recipe in
-    rw c.in-Package.is (found_bad PackagePlan Package c.args.recipe.now failed.fault failed.ensures.bad)
+    rw c.in-Package.is (found_bad PackagePlan (IsBadAt Package c.args.recipe.now) failed.fault failed.ensures.bad)
 
 pub returns-in_ok-issue-in-Ok-clause-to_sign : goal.returns-in_ok-issue-in-Ok-clause-to_sign
 returns-in_ok-issue-in-Ok-clause-to_sign c =
