@@ -1,5 +1,5 @@
 -- The signed attributes of a plan are a set that describes a package.
-use Rattle.std.proofs.Common.{◌≡◌, ℕ, zero, suc, ◌<◌, ◌≤◌, ◌^◌, inl, inr, true, false, is_some, List, [], ◌∷◌, ◌++◌, map, length, Option, Some, None, Contains, refl, sym, ◌∙◌, arith, lit<}
+use Rattle.std.proofs.Common.{◌≡◌, ℕ, zero, suc, ◌+◌, ◌*◌, ◌<◌, ◌≤◌, ◌^◌, inl, inr, true, false, is_some, List, [], ◌∷◌, ◌++◌, map, length, Option, Some, None, Contains, refl, sym, ◌∙◌, arith, lit<}
 use Rattle.std.specs.Prelude.{bytes_eq}
 use Rattle.std.specs.List.{AllByRecursion, IsDistinct}
 use Rattle.std.proofs.lemmas.Bool.{true≢false}
@@ -10,14 +10,15 @@ use Rattle.std.proofs.lemmas.List.Sorted.{IsPermutation-sym, IsPermutation-map, 
 use Rattle.std.proofs.lemmas.Map.Keys.{IsDistinct-IsPermutation}
 use Rattle.sha2.specs.Sha256.{sha256}
 use Rattle.sha2.proofs.Facts256.{length-sha256}
-use Rattle.der_core.specs.Attribute.{Attribute, IsAttribute}
+use Rattle.der_core.specs.Attribute.{Attribute, IsAttribute, attribute_contents, attribute_text}
 use Rattle.der_core.specs.Element.{enc, IsElement, AreOctets}
 use Rattle.der_core.specs.Objects.{IsOid}
 use Rattle.der_core.specs.Reading.{subidentifiers_of, subidentifiers_after, subidentifier_step}
 use Rattle.der_core.specs.Shapes.{text_if}
 use Rattle.der_core.proofs.Lengths.{length-enc-le}
 use Rattle.der_core.proofs.Objects.{is_oid}
-use Rattle.attribute_set.specs.AttributeSet.{IsAttributeSet}
+use Rattle.der_write.specs.Sets.{joined}
+use Rattle.attribute_set.specs.AttributeSet.{IsAttributeSet, set_contents}
 use Rattle.cms_signed.specs.Cut.{firmware_package, signed_data}
 use Rattle.package_attrs.specs.declared.community.Community.{Community}
 use Rattle.package_attrs.specs.declared.name.PackageName.{PackageName}
@@ -36,7 +37,7 @@ use Rattle.attribute_write.specs.Communities.{community_of}
 use Rattle.packager.specs.PackagePlan.{PlannedPackage, IsPackagePlan, HasTexts, IsNamed}
 use Rattle.packager.specs.PlannedMessage.{planned_content, planned_description, planned_attributes, described_attributes}
 use Rattle.packager.specs.PlannedMessage.{one_value, value_if, named_communities, named_info, in_order}
-use Rattle.packager.proofs.Orders.{in_order_same, in_order_sorted}
+use Rattle.packager.proofs.Orders.{in_order_same, in_order_sorted, in_order_contents, set_size}
 use Rattle.packager.proofs.TextSizes.{stale_size, targets_size, are_communities, communities_size, kind_size, dependencies_size}
 
 -- ---- identifiers
@@ -114,23 +115,37 @@ firmware_package_info_is = smime_is 2 42 (lit< tt) (lit< tt) refl
 
 -- ---- one attribute
 
+-- an attribute that isn't long
+record IsShort (a : Attribute) : Type 0 where
+  is : IsAttribute a
+  most : length (attribute_text a) ≤ 2 ^ 21
+
 -- an attribute whose one value is an element that isn't long
 attribute_is : (kind : List ℕ) (tag : ℕ) (contents : List ℕ) → IsOid kind → IsElement tag contents
-    → length contents ≤ 2 ^ 20 → IsAttribute (one_value kind (enc tag contents))
+    → length contents ≤ 2 ^ 20 → IsShort (one_value kind (enc tag contents))
 attribute_is kind tag contents id element few =
     let value = length-enc-le tag contents element.fits in
     let values = length-enc-le 0x31 (enc tag contents) (omega (arith, value, few)) in
+    let size : length (attribute_contents (one_value kind (enc tag contents))) ≤ 2 ^ 20 + 100 =
+    omega (
+      arith,
+      length-append (enc 0x06 kind) (enc 0x31 (enc tag contents)),
+      id.most,
+      length-enc-le 0x06 kind (omega (arith, id.most)),
+      value,
+      values,
+      few,
+    ) in
     record {
-      kind = id;
-      values = (enc tag contents ∷ [], ((tag, contents, element, refl), tt), sym (append-nil (enc tag contents)));
-      fits = omega (
+      is = record {
+        kind = id;
+        values = (enc tag contents ∷ [], ((tag, contents, element, refl), tt), sym (append-nil (enc tag contents)));
+        fits = omega (arith, size);
+      };
+      most = omega (
         arith,
-        length-append (enc 0x06 kind) (enc 0x31 (enc tag contents)),
-        id.most,
-        length-enc-le 0x06 kind (omega (arith, id.most)),
-        value,
-        values,
-        few,
+        size,
+        length-enc-le 0x30 (attribute_contents (one_value kind (enc tag contents))) (omega (arith, size)),
       );
     }
 
@@ -174,7 +189,7 @@ kinds_of attributes = map (λ attribute. attribute.kind) attributes
 
 -- an attribute that is there or isn't
 communities_attribute : (cs : List NamedCommunity) → AllByRecursion IsNamed cs → length cs ≤ 64
-    → AllByRecursion IsAttribute (value_if community_identifiers communities_text (named_communities (map community_of cs)))
+    → AllByRecursion IsShort (value_if community_identifiers communities_text (named_communities (map community_of cs)))
 communities_attribute [] all few = tt
 communities_attribute (c ∷ cs) all few =
     let size = communities_size (c ∷ cs) all in
@@ -185,7 +200,7 @@ communities_attribute (c ∷ cs) all few =
     )
 
 info_attribute : (kind : Option ℕ) (names : List PackageName) → IsInfo (record { kind = kind; dependencies = names })
-    → IsAttribute (one_value firmware_package_info (info_text (record { kind = kind; dependencies = names })))
+    → IsShort (one_value firmware_package_info (info_text (record { kind = kind; dependencies = names })))
 info_attribute kind names valid =
     let size = info_fits kind names valid in
     attribute_is firmware_package_info 0x30 (text_if kind_text kind ++ dependencies_text names) firmware_package_info_is
@@ -193,7 +208,7 @@ info_attribute kind names valid =
     (omega (arith, size))
 
 info_attributes : (kind : Option ℕ) (names : List PackageName) → IsInfo (record { kind = kind; dependencies = names })
-    → AllByRecursion IsAttribute (value_if firmware_package_info info_text (named_info kind names))
+    → AllByRecursion IsShort (value_if firmware_package_info info_text (named_info kind names))
 info_attributes None [] valid = tt
 info_attributes None (name ∷ names) valid = (info_attribute None (name ∷ names) valid, tt)
 info_attributes (Some kind) names valid = (info_attribute (Some kind) names valid, tt)
@@ -204,7 +219,7 @@ both P [] ys all more = more
 both P (x ∷ xs) ys all more = (all.0, both P xs ys all.1 more)
 
 each_attribute : (p : PlannedPackage) → IsPackagePlan p → HasTexts p
-    → AllByRecursion IsAttribute (described_attributes (planned_description p))
+    → AllByRecursion IsShort (described_attributes (planned_description p))
 each_attribute p plan texts =
     let identifier = identifier_fits p texts in
     let targets = targets_size p.targets texts.targets in
@@ -223,7 +238,7 @@ each_attribute p plan texts =
             attribute_is target_hardware_ids 0x30 (targets_contents p.targets) target_hardware_ids_is
                 (record { octet = omega arith; low_bits = omega arith; fits = omega (arith, targets, plan.targets) })
                 (omega (arith, targets, plan.targets)),
-            both IsAttribute (value_if community_identifiers communities_text (named_communities (map community_of p.communities)))
+            both IsShort (value_if community_identifiers communities_text (named_communities (map community_of p.communities)))
                 (value_if firmware_package_info info_text (named_info p.kind p.dependencies))
                 (communities_attribute p.communities texts.communities plan.communities)
                 (info_attributes p.kind p.dependencies (info_is p plan texts)),
@@ -250,18 +265,55 @@ own_types d (Some cs) (Some info) = (
   ),
 )
 
+are_attributes : (all : List Attribute) → AllByRecursion IsShort all → AllByRecursion IsAttribute all
+are_attributes [] short = tt
+are_attributes (a ∷ all) short = (short.0.is, are_attributes all short.1)
+
 pub attribute_set : (p : PlannedPackage) → IsPackagePlan p → HasTexts p → IsAttributeSet (planned_attributes p)
 attribute_set p plan texts =
     let all = described_attributes (planned_description p) in
     let same = in_order_same all in
     record {
       each = recursion_from_All IsAttribute (in_order all)
-          (All-permutation IsAttribute all (in_order all) same (All-from_recursion IsAttribute all (each_attribute p plan texts)));
+          (All-permutation IsAttribute all (in_order all) same (All-from_recursion IsAttribute all (are_attributes all (each_attribute p plan texts))));
       ascending = in_order_sorted all;
       distinct = IsDistinct-IsPermutation bytes_eq nat_list_eq_equiv.symm (kinds_of all) (kinds_of (in_order all))
           (IsPermutation-map (λ (a : Attribute). a.kind) all (in_order all) same)
           (own_types (planned_description p) (named_communities (map community_of p.communities)) (named_info p.kind p.dependencies));
     }
+
+-- ---- how long they are
+
+each_size : (all : List Attribute) → AllByRecursion IsShort all
+    → length (joined (map attribute_text all)) ≤ 2 ^ 21 * length all
+each_size [] short = omega arith
+each_size (a ∷ all) short =
+    omega (
+      arith,
+      short.0.most,
+      each_size all short.1,
+      length-append (attribute_text a) (joined (map attribute_text all)),
+    )
+
+count : (d : Description) (cs : Option (List Community)) (info : Option Info)
+    → length (Front d ++ (value_if community_identifiers communities_text cs
+    ++ value_if firmware_package_info info_text info)) ≤ 6
+count d None None = omega arith
+count d None (Some info) = omega arith
+count d (Some cs) None = omega arith
+count d (Some cs) (Some info) = omega arith
+
+pub attributes_size : (p : PlannedPackage) → IsPackagePlan p → HasTexts p
+    → length (set_contents (planned_attributes p)) ≤ 2 ^ 24
+attributes_size p plan texts =
+    let all = described_attributes (planned_description p) in
+    omega (
+      arith,
+      set_size (map attribute_text all) (set_contents (in_order all)) (in_order_contents all),
+      each_size all (each_attribute p plan texts),
+      count (planned_description p) (named_communities (map community_of p.communities))
+          (named_info p.kind p.dependencies),
+    )
 
 -- ---- what they say
 

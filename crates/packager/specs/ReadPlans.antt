@@ -1,5 +1,7 @@
--- Plans whose certificates are read back, and what their extensions then say (RFC 5280, sections 4.1 and 4.2).
-use Rattle.std.specs.Prelude.{◌≡◌, ℕ, ◌<◌, ◌^◌, true, List, IfSome, option_map}
+-- Plans whose certificates and packages are read back, and what their extensions then say (RFC 5280, sections 4.1 and
+-- 4.2; RFC 5652, section 5).
+use Rattle.std.specs.Prelude.{◌≡◌, ◌≢◌, ℕ, ◌<◌, ◌^◌, true, List, [], ◌∷◌, IfSome, option_map}
+use Rattle.der_core.specs.Asked.{Asked}
 use Rattle.der_core.specs.Element.{IsTagged}
 use Rattle.der_core.specs.Moment.{IsMoment}
 use Rattle.der_core.specs.Objects.{IsOid}
@@ -52,3 +54,10 @@ pub record SaysPlanned (p : CertificatePlan) (e : Extensions) : Type 0 where
   pub ca : e.ca ≡ option_map planned_rule p.authority
   pub usage : e.usage ≡ option_map planned_usage p.uses
   pub constraints : option_map constraints_text e.constraints ≡ p.constraints
+
+-- ---- packages
+
+-- each of the conditions holds, but for that of this number, which isn't asked
+abbrev pub AllBut : ℕ → List Asked → Type 0
+AllBut n [] = Unit {0}
+AllBut n (c ∷ more) = (c.number ≢ n → c.holds) × AllBut n more

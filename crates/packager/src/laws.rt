@@ -1,6 +1,7 @@
 //! Laws of the definitions, which no call computes.
 
-ghost use Rattle.std.specs.Prelude.{◌≡◌, ℕ, ◌+◌, ◌<◌, ◌≤◌, ◌^◌, ◌++◌, List, length, true, false, AllPairs};
+ghost use Rattle.std.specs.Prelude.{◌≡◌, ◌↔◌, ℕ, ◌+◌, ◌<◌, ◌≤◌, ◌^◌, ◌++◌, List, length, true, false, AllPairs};
+ghost use Rattle.der_core.specs.Asked.{AllHold};
 ghost use Rattle.cert_fields.specs.Certificate.{IsCertificate, certificate_text, signed_text};
 ghost use Rattle.cert_fields.specs.Extensions.{HasExtensions};
 ghost use Rattle.cert_fields.specs.declared.extensions.Extensions.{Extensions};
@@ -8,6 +9,7 @@ ghost use Rattle.cms_signed.specs.Cut.{firmware_package};
 ghost use Rattle.cms_signed.specs.Message.{IsMessage, message_tail, message_text};
 ghost use Rattle.cms_signed.specs.Signed.{tail_text};
 ghost use Rattle.cms_signed.specs.Signer.{to_be_signed};
+ghost use Rattle.cms_signed.specs.Tail.{signed_conditions};
 ghost use Rattle.hss_chain.specs.Chains.{HssHolds};
 ghost use Rattle.key_state.specs.KeyBlock.{row_start};
 ghost use Rattle.lms_sign.specs.declared.key.SignKey.{SignKey};
@@ -20,26 +22,36 @@ ghost use Rattle.packager.specs.CertificatePlan.{CertificatePlan, planned_part, 
 ghost use Rattle.packager.specs.PackagePlan.{PlannedPackage, IsPackagePlan, HasTexts};
 ghost use Rattle.packager.specs.PlannedMessage.{planned_content, planned_attributes, planned_description};
 ghost use Rattle.packager.specs.PlannedMessage.{planned_message};
-ghost use Rattle.packager.specs.ReadPlans.{IsCertificatePlan, SaysPlanned};
+ghost use Rattle.packager.specs.ReadPlans.{IsCertificatePlan, SaysPlanned, AllBut};
 ghost use Rattle.packager.specs.Unsigned.{Parts};
 ghost use Rattle.packager.specs.SigningRuns.{Certifies, Packs, output_text, SigningRun, AreRuns, leaves_sent};
 
 use cert_fields::one_certificate_text;
+use cms_signed::laws::accepted_items_are_messages;
 use key_state::no_leaf_is_given_twice;
 use lms_sign::signatures_hold;
 
-/// A planned package is signed data of one signer, wherever at most 2^20 octets stand behind its
-/// encapContentInfo: of its text all conditions hold that `read_signed` asks (RFC 5652, sections 5.1
-/// to 5.4). Its signed attributes describe a package by the plan's values, whose digest is that of its
-/// content (RFC 4108, section 2.2).
+/// A planned package is signed data of one signer, exactly where at most 2^20 octets stand behind its
+/// encapContentInfo (`message`, `limit`): of its text all conditions hold that `read_signed` asks (RFC
+/// 5652, sections 5.1 to 5.4). That limit is condition 11, and the others hold of each planned package,
+/// however many octets its certificates have (`others`). Its signed attributes describe a package by
+/// the plan's values, whose digest is that of its content (RFC 4108, section 2.2).
 pub fn packages_are_signed_data()
     ensures message { (p : PlannedPackage) (signature : List ℕ) → IsPackagePlan p → HasTexts p
         → length (tail_text (message_tail (planned_message p signature))) ≤ 1048576
         → IsMessage firmware_package (planned_message p signature) }
+    ensures others { (p : PlannedPackage) (signature : List ℕ) → IsPackagePlan p → HasTexts p
+        → length signature ≤ 2 ^ 20
+        → AllBut 11 (signed_conditions firmware_package (message_text (planned_message p signature))) }
+    ensures limit { (p : PlannedPackage) (signature : List ℕ) → IsPackagePlan p → HasTexts p
+        → length signature ≤ 2 ^ 20
+        → AllHold (signed_conditions firmware_package (message_text (planned_message p signature)))
+        ↔ (length (tail_text (message_tail (planned_message p signature))) ≤ 1048576) }
     ensures describes { (p : PlannedPackage) → IsPackagePlan p → HasTexts p
         → Describes (planned_attributes p) (planned_description p) }
 {
     one_certificate_text();
+    accepted_items_are_messages();
 }
 
 /// The image of a planned package is the plan's, where the plan wraps it, and where it isn't itself

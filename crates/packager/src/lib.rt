@@ -9,11 +9,13 @@
 //! - `finish` puts the signature of a key with a spent leaf behind the octets (`octets`). It takes no
 //!   memory, and as a leaf is taken by value, none signs twice.
 //! - `laws`: a planned certificate has a text, and its extensions read as the plan's values
-//!   (`issued_certificates_are_read`). A planned package is signed data of one signer, whose
-//!   attributes describe a package by the plan's values (`packages_are_signed_data`), and its image
-//!   is the plan's (`packages_keep_their_image`). Signatures hold under the key's public key and have
-//!   the size for which there is room (`outputs_are_signed`), so `finish` gives the certificate or the
-//!   package that is signed with its leaf (`finished_is_the_output`).
+//!   (`issued_certificates_are_read`). A planned package is signed data of one signer exactly where at
+//!   most 2^20 octets stand behind its content; but for this limit all that is asked of signed data
+//!   holds of each, and its attributes describe a package by the plan's values
+//!   (`packages_are_signed_data`). Its image is the plan's (`packages_keep_their_image`). Signatures
+//!   hold under the key's public key and have the size for which there is room (`outputs_are_signed`),
+//!   so `finish` gives the certificate or the package that is signed with its leaf
+//!   (`finished_is_the_output`).
 //! - Over all runs that sign with a key's leaves and all power cuts in them, no two outputs of which
 //!   any octet was sent have the same leaf: the law `no_leaf_signs_twice`, in the words of
 //!   `specs/SigningRuns`.
@@ -27,9 +29,9 @@
 //!
 //! Limits: a community of modules has one serial entry, and an image at most 2^24 octets. That a
 //! certificate or a package is read back is said where what its plan says has texts
-//! (`IsCertificatePlan`, `HasTexts`), which no type keeps, and of a package where at most 2^20 octets
-//! stand behind its content. That a run of a command is one of those of the law is for the command to
-//! say.
+//! (`IsCertificatePlan`, `HasTexts`), which no type keeps. `pack` also writes a package of which more
+//! than 2^20 octets stand behind its content, which `read_signed` refuses. That a run of a command is
+//! one of those of the law is for the command to say.
 #![tactic(auto)]
 
 mod attributes;
