@@ -1,7 +1,9 @@
 -- What the code reads, as the values of the readings.
-use Rattle.std.specs.Prelude.{ℕ, List, Option, option_map}
+use Rattle.std.specs.Prelude.{◌≡◌, ℕ, List, Option, option_map}
 use Rattle.std.specs.Borrow.{Bor}
+use Rattle.cert_fields.specs.Certificate.{certificate_text, IsCertificate}
 use Rattle.cert_fields.specs.View.{certificate_view}
+use Rattle.cert_fields.specs.declared.certificate.Cert.{Cert}
 use Rattle.cms_signed.specs.declared.gapped.Gapped.{Gapped}
 use Rattle.cms_signed.specs.declared.signed_data.ContentInfo.{ContentInfo}
 use Rattle.cms_signed.specs.declared.signed_data.SignedData.{SignedData}
@@ -40,6 +42,16 @@ tail_view t = record {
 abbrev pub choice_view : Choice → CertificateChoice
 choice_view (choices.Plain certificate) = Plain (certificate_view certificate)
 choice_view (choices.Other tag contents) = Other tag contents.now
+
+-- a certificate that was read of its whole text
+pub record IsWhole (c : Cert) : Type 0 where
+  pub valid : IsCertificate (certificate_view c)
+  pub text : c.whole.now ≡ certificate_text (certificate_view c)
+
+-- a choice that is a certificate was read so
+abbrev pub HasWhole : Choice → Type 0
+HasWhole (choices.Plain certificate) = IsWhole certificate
+HasWhole (choices.Other tag contents) = Unit {0}
 
 abbrev pub signature_view : Bor (List ℕ) × Option (Bor (List ℕ)) → List ℕ × Option (List ℕ)
 signature_view s = (s.0.now, option_map (λ o. o.now) s.1)

@@ -1,5 +1,5 @@
 // Certificates that stay in place.
-ghost use Rattle.std.specs.Prelude.{◌≡◌, ◌∷◌, [], MatchOption, IfSome, OnSome, option_map};
+ghost use Rattle.std.specs.Prelude.{◌≡◌, ◌∷◌, [], MatchOption, IfSome, IfOk, OnSome, option_map};
 ghost use Rattle.std.specs.Prelude.{Some, is_some};
 ghost use Rattle.der_core.specs.Element.{enc};
 ghost use Rattle.std.specs.Iterator.{YieldsFirstBy, item_count};
@@ -8,12 +8,13 @@ ghost use Rattle.der_core.specs.Shapes.{listed};
 ghost use Rattle.attribute_set.specs.Items.{items_of, AreItems};
 ghost use Rattle.cert_fields.specs.View.{certificate_view};
 ghost use Rattle.cms_signed.specs.Certificates.{AreChoices, certificates_among};
-ghost use Rattle.cms_signed.specs.SignedView.{choice_view};
+ghost use Rattle.cms_signed.specs.SignedView.{choice_view, IsWhole, HasWhole};
 ghost use Rattle.cms_signed.specs.SignerKnown.{HasCertificates};
 ghost use Rattle.cms_signed.specs.SignerReading.{choice_from, choice_at};
 
-use cert_fields::{Cert, read_cert};
+use cert_fields::{Cert, KeptCert, read_cert};
 use der_core::{Cursor, tags};
+use std::alloc::{AllocError, Global};
 use std::marker::Model;
 
 /// Certificates in their order, each read from its octets when it is asked for. Takes no memory.
@@ -46,6 +47,42 @@ impl<'a> Certificates<'a> {
             octets: self.octets,
         }
     }
+
+    /// The same certificates, each kept as its octets: 16 octets of memory for each.
+    pub fn keep(&self, alloc: Global) -> Result<Vec<KeptCert<'a>>, AllocError>
+        ensures kept { IfOk result (λ kept. kept.items ≡ self.now) }
+    {
+        let mut rest = self.iter();
+        let mut kept = Vec::new(alloc);
+        while let Some(certificate) = rest.next_kept() {
+            kept.reserve(1)?;
+            kept.push_reserved(certificate);
+        }
+        Ok(kept)
+    }
+
+    // Passes the next certificate.
+    fn next_kept(&mut self) -> Option<KeptCert<'a>>
+        ensures first { MatchOption result (self.old ≡ []) (λ c. self.old ≡ c ∷ self.new) }
+    {
+        let mut items = Cursor::new(self.octets);
+        let Some(certificate) = next_certificate(&mut items) else {
+            return None;
+        };
+        self.octets = items.rest();
+        Some(kept(&certificate))
+    }
+}
+
+// The certificate as its octets.
+fn kept<'a>(certificate: &Cert<'a>) -> KeptCert<'a>
+    requires { IsWhole certificate.now }
+    ensures { result ≡ certificate_view certificate.now }
+{
+    match KeptCert::new(certificate.whole) {
+        Some(kept) => kept,
+        None => unreachable!(),
+    }
 }
 
 impl<'a> Iterator for Certificates<'a> {
@@ -76,7 +113,8 @@ pub(crate) enum Choice<'a> {
 #[tactic(auto, unfolding(crate::specs::SignerReading::choice_from))]
 fn choose<'a>(tag: u8, contents: &'a [u8], whole: &'a [u8]) -> Option<Choice<'a>>
     requires { whole.now ≡ enc tag contents.now }
-    ensures { Answers choice_view result (choice_from tag contents.now) }
+    ensures exact { Answers choice_view result (choice_from tag contents.now) }
+    ensures whole { IfSome result HasWhole }
 {
     if tag != tags::SEQUENCE {
         return Some(Choice::Other(tag, contents));
@@ -92,6 +130,7 @@ fn choose<'a>(tag: u8, contents: &'a [u8], whole: &'a [u8]) -> Option<Choice<'a>
 fn read_choice<'a>(items: &mut Cursor<'a>) -> Option<Choice<'a>>
     ensures exact { Answers (λ choice. (choice_view choice, items.new)) result
         (choice_at items.old) }
+    ensures whole { IfSome result HasWhole }
 {
     let (tag, contents, whole) = items.next()?;
     match choose(tag, contents, whole) {
@@ -104,6 +143,7 @@ fn read_choice<'a>(items: &mut Cursor<'a>) -> Option<Choice<'a>>
 fn next_certificate<'a>(items: &mut Cursor<'a>) -> Option<Cert<'a>>
     requires { AreItems choice_at items.old }
     ensures rest { OnSome result (AreItems choice_at items.new) }
+    ensures whole { IfSome result IsWhole }
     ensures first { MatchOption result
         (certificates_among (items_of choice_at items.old) ≡ [])
         (λ c. certificates_among (items_of choice_at items.old)

@@ -11,6 +11,7 @@
 //!   of another type, and `read_signed_cut` for each item that a frame and a cut stand for (`answer`).
 //! - `Certificates` stay in place in their octets and are seen as the list that these spell. It is an
 //!   iterator that reads the next certificate when it is asked for (`next_gives`: `YieldsFirstBy`).
+//!   `Certificates::keep` keeps each of them as its octets (`kept`).
 //! - `outline_step` takes the front of a piece, all of one part: it says whether these octets are
 //!   content (`part`, `within`), and frame, cut and count are those of all octets that the item has
 //!   had, whatever the pieces (`seen`). The octets that it calls content, one after the other, are
