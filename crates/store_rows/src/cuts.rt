@@ -1,0 +1,203 @@
+// What the cells recover to where an install is stopped at one of its calls, or where one fails.
+use crate::board::{EMPTY, PUT, Part, long_manifest, manifest, open_over, stopping_board};
+use crate::run::install_image;
+use bank_layout::{Bank, FIRST_IMAGE_BLOCK};
+use edge_board::{BLOCK, Board, MemBoard, Pick};
+use module_store::open;
+use std::alloc::Global;
+use std::test::Fail;
+
+const PICKS: [Pick; 4] = [Pick::Keep, Pick::Before, Pick::Fill(0x0f), Pick::Fill(0)];
+
+// Octets of an image of one block, and of two.
+const SHORT: usize = 5;
+
+const LONG: usize = 5_000;
+
+// More calls than an install makes.
+const MOST_CALLS: u64 = 62;
+
+// What the cells recover to: the sequence number, the size of the one image, and the octet that each of
+// its octets is.
+type Found = (u64, usize, u8);
+
+// Where nothing was installed.
+const NOTHING: Found = (0, 0, 0);
+
+// The octets of an image block, where each of the first ones is this one.
+fn is_filled(board: &mut MemBoard, block: u16, size: usize, octet: u8) -> bool {
+    let mut octets = [0u8; 4096];
+    let at = FIRST_IMAGE_BLOCK + u32::from(block);
+    if at >= board.blocks() || board.read(BLOCK * at, &mut octets).is_err() {
+        return false;
+    }
+    octets.iter().take(size).all(|read| *read == octet)
+}
+
+// Whether the image in these blocks is so many octets, each of which is this one.
+fn is_image(board: &mut MemBoard, blocks: &[u16], size: usize, octet: u8) -> bool {
+    let mut left = size;
+    for block in blocks {
+        if !is_filled(board, *block, left, octet) {
+            return false;
+        }
+        left = left.saturating_sub(4096);
+    }
+    left == 0
+}
+
+// What the board recovers to, where its image has the octet of its sequence number.
+fn found(alloc: Global, board: &mut MemBoard) -> Option<Found> {
+    let store = open(alloc, board).ok()?;
+    let octet = u8::try_from(store.sequence).ok()?;
+    if store.state.packages() == 0 {
+        return Some((store.sequence, 0, 0));
+    }
+    let installed = store.state.package(0)?;
+    let size = installed.length as usize;
+    if store.state.packages() == 1 && is_image(board, installed.blocks.as_slice(), size, octet) {
+        Some((store.sequence, size, octet))
+    } else {
+        None
+    }
+}
+
+// Installs 1.2.3.1 version 7 with an image of so many octets, each of which is this one.
+fn install_filled(alloc: Global, board: &mut MemBoard, octet: u8, size: usize) -> bool {
+    match vec![in alloc; octet; size] {
+        Ok(image) => size < 8192 && install_image(alloc, board, 1, 7, &image).is_ok(),
+        Err(_) => false,
+    }
+}
+
+// The banks where this one runs, over an image of the size in block 0, and block 1 where it is long.
+fn with_banks(
+    alloc: Global,
+    bank: Option<Bank>,
+    size: usize,
+    failing: Option<u64>,
+    calls: u64,
+) -> Option<MemBoard> {
+    let short = manifest(2, 1, 0);
+    let long = long_manifest(1);
+    let part: Part<'_> = if size == LONG {
+        open_over(&long)
+    } else {
+        open_over(&short)
+    };
+    let image = [1; LONG];
+    match bank {
+        None => stopping_board(alloc, 4, [EMPTY, EMPTY], b"", failing, calls),
+        Some(Bank::Zero) => stopping_board(
+            alloc,
+            4,
+            [part, EMPTY],
+            &image[..size.min(LONG)],
+            failing,
+            calls,
+        ),
+        Some(Bank::One) => stopping_board(
+            alloc,
+            4,
+            [EMPTY, part],
+            &image[..size.min(LONG)],
+            failing,
+            calls,
+        ),
+    }
+}
+
+// Whether an install of an image of the new size answers Ok where it is stopped behind so many calls.
+// None where the cells don't recover to what it installs, nor, without Ok, to what was there.
+fn stops(
+    alloc: Global,
+    bank: Option<Bank>,
+    old: usize,
+    new: usize,
+    calls: u64,
+    pick: Pick,
+) -> Option<bool> {
+    let before = if bank.is_none() { NOTHING } else { (1, old, 1) };
+    let next = if bank.is_none() { 1 } else { 2 };
+    let mut board = with_banks(alloc, bank, old, None, PUT.saturating_add(calls))?;
+    let done = install_filled(alloc, &mut board, next, new);
+    let mut board = board.stopped(alloc, pick, 20, 0).ok()?;
+    let after = found(alloc, &mut board)?;
+    if after == (u64::from(next), new, next) || !done && after == before {
+        Some(done)
+    } else {
+        None
+    }
+}
+
+// The same behind each number of calls, with each pick: whether the last answers Ok.
+fn stops_anywhere(alloc: Global, bank: Option<Bank>, old: usize, new: usize) -> Option<bool> {
+    let mut done = false;
+    for calls in 0..=MOST_CALLS {
+        for pick in PICKS {
+            done = stops(alloc, bank, old, new, calls, pick)?;
+        }
+    }
+    Some(done)
+}
+
+// Nothing was installed before, or bank 0 or bank 1 runs; the new image is as long as the one that it
+// replaces, longer or shorter.
+#[test]
+fn a_stopped_install_leaves_old_or_new(rt: HostRuntime) -> Result<(), Fail> {
+    let alloc = rt.alloc();
+    let [zero, one] = [Some(Bank::Zero), Some(Bank::One)];
+    assert_eq!(rt; stops_anywhere(alloc, None, 0, LONG), Some(true));
+    assert_eq!(rt; stops_anywhere(alloc, zero, LONG, LONG), Some(true));
+    assert_eq!(rt; stops_anywhere(alloc, zero, SHORT, LONG), Some(true));
+    assert_eq!(rt; stops_anywhere(alloc, zero, LONG, SHORT), Some(true));
+    assert_eq!(rt; stops_anywhere(alloc, one, LONG, LONG), Some(true));
+    assert_eq!(rt; stops_anywhere(alloc, one, SHORT, LONG), Some(true));
+    assert_eq!(rt; stops_anywhere(alloc, one, LONG, SHORT), Some(true));
+    Ok(())
+}
+
+// Whether two installs on a module without packages answer Ok. None where the cells don't recover to
+// what the last one that was begun installs, nor, without its Ok, to what was there before it.
+fn installs_two(alloc: Global, board: MemBoard, pick: Pick) -> Option<bool> {
+    let mut board = board;
+    let first = install_filled(alloc, &mut board, 1, LONG);
+    let second = first && install_filled(alloc, &mut board, 2, SHORT);
+    let mut board = board.stopped(alloc, pick, 20, 0).ok()?;
+    let after = found(alloc, &mut board)?;
+    let one = (1, LONG, 1);
+    let (old, new) = if first {
+        (one, (2, SHORT, 2))
+    } else {
+        (NOTHING, one)
+    };
+    if after == new || !second && after == old {
+        Some(second)
+    } else {
+        None
+    }
+}
+
+// Two installs that are stopped behind so many calls, and two of whose calls the one of this number
+// fails: whether all four answer Ok.
+fn two_are_lawful(alloc: Global, calls: u64, pick: Pick) -> Option<bool> {
+    let number = PUT.saturating_add(calls);
+    let stopping = with_banks(alloc, None, 0, None, number)?;
+    let failing = with_banks(alloc, None, 0, Some(number), 1_000)?;
+    let stopped = installs_two(alloc, stopping, pick)?;
+    let failed = installs_two(alloc, failing, pick)?;
+    Some(stopped && failed)
+}
+
+#[test]
+fn two_installs_leave_one_or_the_other(rt: HostRuntime) -> Result<(), Fail> {
+    let mut done = None;
+    for calls in 0..=2 * MOST_CALLS {
+        for pick in PICKS {
+            done = two_are_lawful(rt.alloc(), calls, pick);
+            assert!(rt; done.is_some(), "behind {calls} calls");
+        }
+    }
+    assert_eq!(rt; done, Some(true));
+    Ok(())
+}
