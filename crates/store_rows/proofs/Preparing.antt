@@ -1,5 +1,5 @@
 -- A package whose image stands in free blocks can be prepared.
-use Rattle.std.proofs.Common.{◌≡◌, ℕ, ◌+◌, ◌*◌, ◌<◌, ◌≤◌, ◌^◌, Bool, true, List, [], ◌++◌, length, Option, None, IfSome, All, Contains, refl, sym, ap, subst, ◌∙◌, arith}
+use Rattle.std.proofs.Common.{◌≡◌, ℕ, ◌+◌, ◌<◌, ◌≤◌, ◌^◌, Bool, true, List, ◌++◌, length, Option, IfSome, All, Contains, sym, ap, subst, ◌∙◌, arith}
 use Rattle.std.specs.List.{AllByRecursion}
 use Rattle.std.specs.Option.{option_and_then}
 use Rattle.std.proofs.lemmas.Bool.{false≢true}
@@ -13,10 +13,8 @@ use Rattle.package_attrs.specs.declared.name.Stale.{Stale}
 use Rattle.package_attrs.specs.Description.{Description}
 use Rattle.package_attrs.specs.Identifier.{IsName}
 use Rattle.module_record.specs.declared.module.Module.{Module}
-use Rattle.config_table.specs.declared.stale_entry.StaleEntry.{StaleEntry}
 use Rattle.config_table.specs.State.{State, last_stale, made_stale, offer_of, with_package}
 use Rattle.config_table.specs.Stored.{Stored}
-use Rattle.bank_layout.specs.Changes.{IsNew}
 use Rattle.bank_layout.specs.declared.bank.Bank.{Bank}
 use Rattle.bank_layout.specs.Manifest.{Manifest, named_blocks}
 use Rattle.bank_layout.specs.Recovery.{HoldsModule}

@@ -1,4 +1,4 @@
-use Rattle.std.proofs.Common.{◌≡◌, ◌+◌, ◌<◌, ◌≤◌, ◌^◌, ◌∙◌, true, ℕ, List, length, All, ap, subst, arith, rules}
+use Rattle.std.proofs.Common.{◌≡◌, ◌+◌, ◌<◌, ◌≤◌, ◌^◌, true, ℕ, List, length, All, subst, rules}
 use Rattle.block_pool.specs.Numbers.{IsApart}
 use Rattle.block_pool.specs.Pools.{IsFree, marked}
 use Rattle.content_stream.specs.ImageBlocks.{blocks_for}
