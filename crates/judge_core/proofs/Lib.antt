@@ -1,0 +1,12 @@
+pub mod SumLemmas
+pub mod TellsLemmas
+pub mod LengthLemmas
+pub mod KeyLemmas
+pub mod GrantLemmas
+pub mod FrameLemmas
+pub mod JudgeLemmas
+pub mod ResultLemmas
+pub mod PackageLemmas
+pub mod OneVerdict
+pub mod SizeLemmas
+pub mod RehearsalLemmas
