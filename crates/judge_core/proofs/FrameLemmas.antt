@@ -1,9 +1,9 @@
 -- An item that is a frame with a content put in.
-use Rattle.std.proofs.Common.{◌≡◌, ◌+◌, ◌<◌, ℕ, List, ◌++◌, length, take, drop, replicate, get_or, Some, refl, sym, ap, subst, inl, inr, ◌∙◌, arith}
+use Rattle.std.proofs.Common.{◌≡◌, ◌<◌, ℕ, List, ◌++◌, length, take, drop, replicate, Some, sym, ap, subst, inl, inr, ◌∙◌, arith}
 use Rattle.std.proofs.lemmas.Bool.{cases_lt}
 use Rattle.std.proofs.lemmas.List.{length-append, length-replicate, get_or-replicate, get_or_past, take_at, drop_at, append_assoc}
 use Rattle.der_core.specs.Element.{AreOctets}
-use Rattle.der_core.specs.Head.{head_octets, IsHead, BeginsWith}
+use Rattle.der_core.specs.Head.{head_octets, BeginsWith}
 use Rattle.cms_signed.specs.Answer.{put_in}
 use Rattle.cms_signed.specs.Cut.{HasCut}
 use Rattle.judge_core.specs.Steps.{BeginsLike}

@@ -1,8 +1,8 @@
 -- The verdict on an item, put together.
-use Rattle.std.proofs.Common.{◌≡◌, ◌+◌, ℕ, List, [], ◌∷◌, ◌++◌, length, Option, Some, None, inl, inr, refl, sym, ap, subst, ◌∙◌, arith}
+use Rattle.std.proofs.Common.{◌≡◌, ℕ, List, [], ◌∷◌, ◌++◌, length, Some, None, inl, inr, refl, sym, ap, subst, ◌∙◌, arith}
 use Rattle.std.specs.List.{AllByRecursion}
 use Rattle.sha2.specs.Sha256.{sha256}
-use Rattle.der_core.specs.Asked.{Asked, asked, AllHold, FirstFail}
+use Rattle.der_core.specs.Asked.{asked, AllHold, FirstFail}
 use Rattle.der_core.proofs.AskedLemmas.{first_front, first_behind, all_hold}
 use Rattle.cert_fields.specs.Anchor.{TrustAnchor}
 use Rattle.cms_signed.specs.Cut.{firmware_package}

@@ -1,8 +1,8 @@
 -- The state with the lengths of its images alone.
-use Rattle.std.proofs.Common.{◌≡◌, ℕ, List, [], length, Option, None, Some, IsNone, IfSome, ◌↔◌, sym, subst}
-use Rattle.der_core.specs.Asked.{Asked, AllHold, FirstFail}
+use Rattle.std.proofs.Common.{◌≡◌, ℕ, List, [], length, Option, None, Some, IsNone, IfSome, ◌↔◌, subst}
+use Rattle.der_core.specs.Asked.{AllHold, FirstFail}
 use Rattle.sha2.specs.Sha256.{sha256}
-use Rattle.config_table.specs.State.{State, offer_of, with_package, state_with}
+use Rattle.config_table.specs.State.{State, offer_of, with_package}
 use Rattle.config_table.specs.Stored.{Stored}
 use Rattle.config_table.proofs.StateLemmas.{with_package-state_with}
 use Rattle.package_attrs.specs.Description.{Description}

@@ -1,6 +1,7 @@
 pub mod SumLemmas
 pub mod TellsLemmas
 pub mod LengthLemmas
+pub mod CutLemmas
 pub mod KeyLemmas
 pub mod GrantLemmas
 pub mod FrameLemmas

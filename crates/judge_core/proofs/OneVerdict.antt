@@ -1,5 +1,5 @@
 -- An item has one verdict at most.
-use Rattle.std.proofs.Common.{◌≡◌, ◌⊎◌, ℕ, List, ◌++◌, Option, Some, None, slice_get, inl, inr, refl, sym, ap, subst, ◌∙◌}
+use Rattle.std.proofs.Common.{◌↔◌, ◌≡◌, ℕ, List, Some, None, slice_get, inl, inr, sym, ap, subst, ◌∙◌, refl}
 use Rattle.der_core.specs.Asked.{Asked, AllHold, FirstFail}
 use Rattle.der_core.specs.Attribute.{Attribute}
 use Rattle.der_core.proofs.AskedLemmas.{first_is_one, not_both}
@@ -10,7 +10,6 @@ use Rattle.cert_fields.specs.Sid.{SignerIdentifier}
 use Rattle.cms_signed.specs.Cut.{firmware_package}
 use Rattle.cms_signed.specs.Message.{Message, IsMessage, message_text}
 use Rattle.module_record.specs.declared.module.Module.{Module}
-use Rattle.package_attrs.specs.declared.name.PackageName.{PackageName}
 use Rattle.package_attrs.specs.Attributes.{HaveOwnTypes, Describes}
 use Rattle.package_attrs.specs.Description.{Description}
 use Rattle.package_attrs.specs.Image.{IsImage}
@@ -18,7 +17,7 @@ use Rattle.path_check.specs.Conditions.{members_at}
 use Rattle.path_check.specs.Paths.{PathPlaces, PathOf}
 use Rattle.judge_core.specs.Values.{Values, Spells}
 use Rattle.judge_core.specs.Conditions.{octet_conditions, value_conditions, certificates_in, LeadsUp}
-use Rattle.judge_core.specs.Verdicts.{Bench, Verdict, accepts, refuses, Judges, Admits, FailsLater, later_conditions}
+use Rattle.judge_core.specs.Verdicts.{Bench, Verdict, accepts, refuses, Judges, Admits, IsAccepted, IsAdmitted, FailsLater, later_conditions}
 
 -- the laws of the crates below
 pub record Laws : Type 0 where
@@ -116,3 +115,15 @@ module _ (laws : Laws) where
         let number : n ≡ k = one_fails w n k (subst (λ u. FailsLater b u n) same f) g in
         let names : name ≡ name' = is ∙ ap (λ (u : Values). u.described.identifier.name) same ∙ sym are in
         λ i. refuses (number i) (Some (names i))
+
+    -- it accepts exactly where the item is admitted
+    pub accepted : (verdict : Verdict) → Judges b item verdict → IsAccepted verdict ↔ IsAdmitted b item
+    accepted (accepts d content image key) (v, a, x, d-is, content-is, key-is) = (λ yes. (v, image, a, x), λ admitted. tt)
+    accepted (refuses n name) judges = (
+      λ no. absurd no,
+      λ found.
+          let yes : Judges b item (accepts found.0.described found.0.message.content found.1 found.2.key_id) =
+          (found.0, found.2, found.3, refl, refl, refl) in
+          subst IsAccepted (one_verdict (accepts found.0.described found.0.message.content found.1 found.2.key_id)
+          (refuses n name) yes judges) tt,
+    )

@@ -1,5 +1,5 @@
 -- The conditions 20 to 41, put together.
-use Rattle.std.proofs.Common.{◌≡◌, ◌<◌, ℕ, List, ◌++◌, length, Option, Some, None, slice_get, inl, inr, refl, sym, ap, subst, ◌∙◌, arith}
+use Rattle.std.proofs.Common.{◌≡◌, ℕ, List, Some, slice_get, inl, inr, refl, ap, subst, ◌∙◌, arith}
 use Rattle.std.proofs.lemmas.Option.{slice_get_cases}
 use Rattle.der_core.specs.Asked.{AllHold, FirstFail}
 use Rattle.der_core.proofs.AskedLemmas.{first_front, first_behind, all_hold}
@@ -20,7 +20,7 @@ use Rattle.judge_core.specs.declared.fault.Fault.{Fault}
 use Rattle.judge_core.specs.declared.fault.Fault.TheVariants.{Fails, Memory}
 use Rattle.judge_core.specs.Conditions.{value_conditions, signature_conditions, rule_conditions, lengths, certificates_in, LeadsUp, IsPath}
 use Rattle.judge_core.specs.Verdicts.{bench}
-use Rattle.judge_core.specs.Steps.{Says, Passes, Stops, Tells, values_of}
+use Rattle.judge_core.specs.Steps.{Says, Passes, Stops, values_of}
 
 -- what is told of a condition goes on
 pub says : (P Q : ℕ → Type 0) (fault : Fault) → ((n : ℕ) → P n → Q n) → Says fault P → Says fault Q

@@ -1,9 +1,9 @@
 -- An item by its head.
-use Rattle.std.proofs.Common.{◌≡◌, ℕ, ◌+◌, ◌≤◌, List, [], ◌++◌, length, Ok, refl, sym, ap, subst, ◌∙◌, arith}
+use Rattle.std.proofs.Common.{◌≡◌, ℕ, ◌+◌, List, [], ◌++◌, length, Ok, refl, sym, ap, subst, ◌∙◌, arith}
 use Rattle.std.proofs.lemmas.List.{length-append, append-nil}
 use Rattle.der_core.specs.declared.fault.DerFault.{DerFault}
 use Rattle.der_core.specs.declared.fault.DerFault.TheVariants.{Short, Malformed}
-use Rattle.der_core.specs.Element.{enc, IsElement}
+use Rattle.der_core.specs.Element.{enc}
 use Rattle.der_core.specs.Head.{head_octets, head_at, IsHead, BeginsWith, IsNoHead}
 use Rattle.der_core.proofs.HeadLemmas.{head_again}
 use Rattle.judge_core.specs.Conditions.{IsItem}

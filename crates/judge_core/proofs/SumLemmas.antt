@@ -1,12 +1,12 @@
 -- How many blocks the images of a state take.
-use Rattle.std.proofs.Common.{◌≡◌, ℕ, ◌+◌, ◌≤◌, ◌<◌, List, [], ◌∷◌, length, take, get_or, slice_get, Bool, true, false, Some, None, Option, map, refl, ap, arith, sym, ◌∙◌}
+use Rattle.std.proofs.Common.{◌≡◌, ℕ, ◌+◌, ◌≤◌, ◌<◌, List, [], ◌∷◌, length, take, get_or, slice_get, Bool, true, false, Some, None, map, refl, ap, arith, sym, ◌∙◌}
 use Rattle.std.specs.List.{sum_by, find}
 use Rattle.std.proofs.lemmas.List.Sums.{sum_by-cons, sum_by_more}
 use Rattle.std.proofs.lemmas.Option.{slice_get-get_or}
 use Rattle.std.specs.Option.{option_map_or}
 use Rattle.content_stream.specs.ImageBlocks.{blocks_for}
 use Rattle.package_attrs.specs.declared.name.PackageName.TheVariants as names
-use Rattle.config_table.specs.State.{Entry, State, Offer, placed, entry_for, with_package, state_with, entry_with}
+use Rattle.config_table.specs.State.{Entry, State, Offer, placed, entry_for, with_package, entry_with}
 use Rattle.config_table.proofs.StateLemmas.{with_package-state_with}
 use Rattle.config_table.specs.Stored.{Stored}
 use Rattle.config_table.specs.Names.{is_same}

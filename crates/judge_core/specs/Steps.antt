@@ -1,6 +1,6 @@
 -- What is known while the conditions from 19 on are asked one after the other. A bridge between the code and the
 -- verdicts: nothing here has to be believed.
-use Rattle.std.specs.Prelude.{◌≡◌, ◌↔◌, ◌⊎◌, ℕ, ◌+◌, List, ◌++◌, length, Option, Some, None, Result, Ok, Err}
+use Rattle.std.specs.Prelude.{◌≡◌, ◌↔◌, ◌⊎◌, ℕ, ◌+◌, List, length, Option, Some, None, Result, Ok, Err}
 use Rattle.sha2.specs.Sha256.{sha256}
 use Rattle.der_core.specs.Asked.{Asked, AllHold, FirstFail}
 use Rattle.der_core.specs.Head.{BeginsWith}

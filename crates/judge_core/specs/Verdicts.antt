@@ -51,6 +51,10 @@ pub record Admits (b : Bench) (item : List ℕ) (v : Values) (image : List ℕ) 
   pub leads : LeadsUp b.holder v.message anchor members
   pub others : AllHold (later_conditions b v image anchor members)
 
+-- it is admitted, with some values, image and anchor
+abbrev pub IsAdmitted : Bench → List ℕ → Type 0
+IsAdmitted b item = (v : Values) × (image : List ℕ) × (anchor : TrustAnchor) × Admits b item v image anchor
+
 -- The condition of this number is the first from 20 on that fails: one of the values, or, where these hold, one of the
 -- path or of what is installed.
 abbrev pub FailsLater : Bench → Values → ℕ → Type 0
@@ -69,3 +73,8 @@ Judges b item (refuses number None) = FirstFail (octet_conditions item) number
 Judges b item (refuses number (Some name)) =
     AllHold (octet_conditions item)
     × ((v : Values) × Spells item v × FailsLater b v number × (name ≡ v.described.identifier.name))
+
+-- it accepts
+abbrev pub IsAccepted : Verdict → Type 0
+IsAccepted (accepts described content image key_id) = Unit {0}
+IsAccepted (refuses number name) = ⊥

@@ -1,9 +1,8 @@
 -- The answers of the code, as verdicts, and what is known of a content that isn't there.
-use Rattle.std.specs.Prelude.{◌≡◌, ℕ, List, length, Option, Some, None}
+use Rattle.std.specs.Prelude.{◌↔◌, ◌≡◌, ℕ, List, length, Option, Some, None}
 use Rattle.sha2.specs.Sha256.{sha256}
 use Rattle.der_core.specs.Element.{AreOctets}
 use Rattle.cms_signed.specs.Answer.{put_in}
-use Rattle.cms_signed.specs.Cut.{HasCut}
 use Rattle.package_attrs.specs.Description.{description}
 use Rattle.package_attrs.specs.Image.{IsImage}
 use Rattle.judge_core.specs.declared.verdict.Verdict.{Verdict as Found}
@@ -11,7 +10,7 @@ use Rattle.judge_core.specs.declared.verdict.Verdict.TheVariants as found
 use Rattle.judge_core.specs.declared.verdict.CutVerdict.{CutVerdict}
 use Rattle.judge_core.specs.declared.verdict.CutVerdict.TheVariants as cuts
 use Rattle.judge_core.specs.declared.verdict.Cut.{Cut}
-use Rattle.judge_core.specs.Verdicts.{Bench, Verdict, accepts, refuses, Judges}
+use Rattle.judge_core.specs.Verdicts.{Bench, Verdict, accepts, refuses, Judges, IsAdmitted}
 
 -- a verdict on a whole item
 abbrev pub verdict_view : Found → Verdict
@@ -46,3 +45,15 @@ JudgesCut b frame None verdict =
 JudgesCut b frame (Some cut) verdict =
     (content image : List ℕ) → IsCutContent cut content image
     → Judges b (put_in frame (Some (cut.place, cut.length)) content) (cut_view content image verdict)
+
+-- a verdict on an item without its content accepts
+abbrev pub IsAcceptedCut : CutVerdict → Type 0
+IsAcceptedCut (cuts.Accept firmware anchor_key_id) = Unit {0}
+IsAcceptedCut (cuts.Refuse condition name) = ⊥
+
+-- it accepts exactly where each such item is admitted
+abbrev pub AcceptsCut : Bench → List ℕ → Option Cut → CutVerdict → Type 0
+AcceptsCut b frame None verdict = IsAcceptedCut verdict ↔ IsAdmitted b frame
+AcceptsCut b frame (Some cut) verdict =
+    (content image : List ℕ) → IsCutContent cut content image
+    → IsAcceptedCut verdict ↔ IsAdmitted b (put_in frame (Some (cut.place, cut.length)) content)

@@ -5,12 +5,12 @@ ghost use Rattle.module_record.specs.ModuleRecord.{HasLimits};
 ghost use Rattle.judge_core.specs.Verdicts.{bench};
 ghost use Rattle.judge_core.specs.declared.verdict.CutVerdict.TheVariants.{Refuse};
 ghost use Rattle.judge_core.specs.FaultOf.{IfFails};
-ghost use Rattle.judge_core.specs.Views.{gap_of, JudgesCut};
+ghost use Rattle.judge_core.specs.Views.{gap_of, JudgesCut, AcceptsCut};
 
 use crate::content::Content;
 use crate::package::judge_view;
 use crate::size::first_of_size;
-use crate::{Cut, CutVerdict, Verdict, judge};
+use crate::{Cut, CutVerdict, Verdict, accepted_is_admitted, judge};
 use cms_signed::laws::one_message;
 use cms_signed::{SignedFault, read_signed_cut};
 use config_table::State;
@@ -22,6 +22,27 @@ use std::alloc::{AllocError, Global};
 /// and the digest that the cut says, and an image of that length. Without a cut the frame is the item.
 /// It is the verdict of `judge` on that item, at the same cost.
 pub fn judge_cut<'a>(
+    alloc: Global,
+    owner: &Module,
+    state: &State,
+    sequence: u64,
+    at: Moment,
+    frame: &'a [u8],
+    cut: Option<Cut>,
+) -> Result<CutVerdict<'a>, AllocError>
+    requires limits { HasLimits owner.now }
+    requires head { IfSome (gap_of cut) (λ gap. HasCut frame.now gap.0 gap.1) }
+    ensures judges { IfOk result
+        (JudgesCut (bench owner.now state.now sequence at) frame.now cut) }
+    ensures accepts { IfOk result
+        (AcceptsCut (bench owner.now state.now sequence at) frame.now cut) }
+{
+    accepted_is_admitted();
+    judge_any(alloc, owner, state, sequence, at, frame, cut)
+}
+
+// The same, without the law.
+fn judge_any<'a>(
     alloc: Global,
     owner: &Module,
     state: &State,

@@ -1,14 +1,14 @@
 // The verdict on a whole item.
-ghost use Rattle.std.specs.Prelude.{◌≡◌, IfOk, None};
+ghost use Rattle.std.specs.Prelude.{◌≡◌, ◌↔◌, IfOk, None};
 ghost use Rattle.module_record.specs.ModuleRecord.{HasLimits};
-ghost use Rattle.judge_core.specs.Verdicts.{bench, refuses, Judges};
+ghost use Rattle.judge_core.specs.Verdicts.{bench, refuses, Judges, IsAccepted, IsAdmitted};
 ghost use Rattle.judge_core.specs.FaultOf.{IfFails};
 ghost use Rattle.judge_core.specs.Views.{verdict_view};
 
 use crate::content::known_of;
 use crate::package::judge_view;
 use crate::size::first_of_size;
-use crate::{CutVerdict, Verdict};
+use crate::{CutVerdict, Verdict, accepted_is_admitted};
 use cms_signed::laws::one_message;
 use cms_signed::{SignedFault, read_signed};
 use config_table::State;
@@ -24,6 +24,25 @@ use std::alloc::{AllocError, Global};
 /// No condition is asked before those below it hold; each signature is verified at most once. Takes
 /// memory for what is read of the signed attributes and the certificates: at most 4 times the item.
 pub fn judge<'a>(
+    alloc: Global,
+    owner: &Module,
+    state: &State,
+    sequence: u64,
+    at: Moment,
+    item: &'a [u8],
+) -> Result<Verdict<'a>, AllocError>
+    requires limits { HasLimits owner.now }
+    ensures judges { IfOk result (λ verdict.
+        Judges (bench owner.now state.now sequence at) item.now (verdict_view verdict)) }
+    ensures accepts { IfOk result (λ verdict. IsAccepted (verdict_view verdict)
+        ↔ IsAdmitted (bench owner.now state.now sequence at) item.now) }
+{
+    accepted_is_admitted();
+    judge_item(alloc, owner, state, sequence, at, item)
+}
+
+// The same, without the law.
+fn judge_item<'a>(
     alloc: Global,
     owner: &Module,
     state: &State,

@@ -1,5 +1,4 @@
-use Rattle.std.proofs.Common.{List, ℕ, subst}
-use Rattle.judge_core.specs.declared.verdict.Verdict.TheVariants as found
+use Rattle.std.proofs.Common.{subst}
 use Rattle.judge_core.specs.Verdicts.{bench, Judges}
 use Rattle.judge_core.specs.Views.{verdict_view}
 use Rattle.judge_core.proofs.frame.judge_whole.Goals as goal

@@ -1,13 +1,12 @@
-use Rattle.std.proofs.Common.{◌≡◌, ◌<◌, ◌++◌, ℕ, List, length, false, true, Some, None, is_some, slice_get, refl, sym, ap, subst, ◌∙◌}
+use Rattle.std.proofs.Common.{◌≡◌, ◌<◌, ◌++◌, ℕ, List, length, false, true, Some, is_some, slice_get, refl, sym, ap, subst, ◌∙◌}
 use Rattle.std.specs.List.{AllZip}
 use Rattle.std.proofs.lemmas.Option.{slice_get_read}
 use Rattle.constraint_meet.specs.Grants.{Members, of_anchor}
 use Rattle.constraint_meet.specs.GrantView.{constraints_view}
 use Rattle.path_check.specs.Checked.{HasConstraints}
-use Rattle.path_check.specs.Conditions.{members_at, Reads}
+use Rattle.path_check.specs.Conditions.{members_at}
 use Rattle.path_check.proofs.MemberLemmas.{places_within, anchor_within}
 use Rattle.path_check.proofs.PermitLemmas.{lent}
-use Rattle.judge_core.specs.Granted.{IsGrantOf}
 use Rattle.judge_core.proofs.GrantLemmas.{IsMade, told_made, grant_is, zip_reads}
 use Rattle.judge_core.proofs.grant.grant_at.Goals as goal
 

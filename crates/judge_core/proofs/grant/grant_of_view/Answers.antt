@@ -1,19 +1,18 @@
-use Rattle.std.proofs.Common.{◌≡◌, ℕ, List, Option, None, Some, IsNone, option_map, refl, sym, ap, subst, ◌∙◌}
+use Rattle.std.proofs.Common.{◌≡◌, List, Option, None, Some, IsNone, option_map, sym, ap, subst, ◌∙◌}
 use Rattle.std.specs.Prelude.{◌↔◌}
 use Rattle.std.proofs.lemmas.Option.{none-some}
 use Rattle.der_core.specs.Attribute.{Attribute}
 use Rattle.der_core.specs.Asked.{AllHold, FirstFail}
 use Rattle.sha2.specs.Sha256.{sha256}
 use Rattle.der_core.proofs.AskedLemmas.{not_both}
-use Rattle.cert_fields.specs.Certificate.{Certificate}
-use Rattle.cert_fields.specs.Sid.{sid_view, SignerIdentifier}
+use Rattle.cert_fields.specs.Sid.{sid_view}
 use Rattle.cms_signed.specs.Message.{Message}
 use Rattle.cms_signed.specs.SignedAnswer.{Shows}
 use Rattle.module_record.specs.declared.module.Module.{Module}
 use Rattle.package_attrs.specs.declared.package.Package.{Package}
 use Rattle.package_attrs.specs.Attributes.{HaveOwnTypes, Describes}
 use Rattle.package_attrs.specs.Description.{Description, description}
-use Rattle.path_check.specs.Paths.{PathPlaces, PathOf}
+use Rattle.path_check.specs.Paths.{PathOf}
 use Rattle.judge_core.specs.declared.fault.Fault.{Fault}
 use Rattle.judge_core.specs.declared.fault.Fault.TheVariants.{Fails, Memory}
 use Rattle.judge_core.specs.Conditions.{certificates_in, value_conditions}

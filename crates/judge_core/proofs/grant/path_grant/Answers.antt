@@ -1,4 +1,4 @@
-use Rattle.std.proofs.Common.{◌≡◌, ℕ, List, ◌∷◌, [], ◌++◌, Option, None, IsNone, refl, sym, ap, subst, ◌∙◌}
+use Rattle.std.proofs.Common.{◌≡◌, ℕ, List, ◌∷◌, [], ◌++◌, Option, IsNone, sym, subst, ◌∙◌}
 use Rattle.der_core.specs.Asked.{asked, AllHold}
 use Rattle.der_core.proofs.AskedLemmas.{all_hold, not_both}
 use Rattle.cms_signed.specs.Cut.{firmware_package}
@@ -8,7 +8,6 @@ use Rattle.cms_signed.specs.Tail.{signed_conditions}
 use Rattle.cms_signed.specs.declared.signed.SignedFault.{SignedFault}
 use Rattle.cms_signed.specs.declared.signed.SignedFault.TheVariants as signed
 use Rattle.module_record.specs.declared.module.Module.{Module}
-use Rattle.package_attrs.specs.Attributes.{Describes}
 use Rattle.judge_core.specs.FaultOf.{IfFails}
 use Rattle.judge_core.specs.Values.{Values, Spells}
 use Rattle.judge_core.specs.Conditions.{size_conditions, octet_conditions}

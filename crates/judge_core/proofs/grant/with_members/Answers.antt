@@ -1,5 +1,4 @@
-use Rattle.std.proofs.Common.{◌≡◌, ◌≤◌, ℕ, ◌∷◌, [], ◌++◌, List, length, take, refl, sym, ap, subst, ◌∙◌, arith}
-use Rattle.std.proofs.lemmas.List.{take_all}
+use Rattle.std.proofs.Common.{◌++◌, take, refl, sym, ap, subst, ◌∙◌}
 use Rattle.constraint_meet.specs.Grants.{of_certificate}
 use Rattle.path_check.specs.Conditions.{Reads, members_at}
 use Rattle.path_check.proofs.MemberLemmas.{members_more, member_among, reads_none, there}

@@ -1,4 +1,4 @@
-use Rattle.judge_core.proofs.OneVerdict.{Laws, one_value, one_verdict}
+use Rattle.judge_core.proofs.OneVerdict.{Laws, one_verdict}
 use Rattle.judge_core.proofs.laws.one_verdict_each.Goals as goal
 
 pub returns : goal.returns

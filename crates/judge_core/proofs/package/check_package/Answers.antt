@@ -1,6 +1,5 @@
-use Rattle.std.proofs.Common.{◌≡◌, ℕ, List, Some, sym, ap, subst, ◌∙◌}
-use Rattle.der_core.specs.Asked.{AllHold, FirstFail}
-use Rattle.cert_fields.specs.Certificate.{Certificate}
+use Rattle.std.proofs.Common.{◌≡◌, sym, subst, ◌∙◌}
+use Rattle.der_core.specs.Asked.{FirstFail}
 use Rattle.cert_fields.specs.Sid.{sid_view}
 use Rattle.package_attrs.specs.Description.{description}
 use Rattle.path_check.specs.Conditions.{members_at}

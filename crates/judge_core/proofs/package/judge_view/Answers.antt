@@ -1,4 +1,4 @@
-use Rattle.std.proofs.Common.{◌≡◌, ℕ, List, Option, None, Some, Result, Ok, Err, option_map, IfOk, refl, sym, ap, subst, ◌∙◌}
+use Rattle.std.proofs.Common.{◌≡◌, ℕ, List, Option, None, Some, option_map, refl, sym, ap, subst, ◌∙◌}
 use Rattle.std.specs.Prelude.{◌↔◌}
 use Rattle.std.proofs.lemmas.Option.{none-some}
 use Rattle.der_core.specs.Attribute.{Attribute}
@@ -10,7 +10,6 @@ use Rattle.package_attrs.specs.Description.{Description, description}
 use Rattle.judge_core.specs.declared.fault.Fault.{Fault}
 use Rattle.judge_core.specs.declared.fault.Fault.TheVariants.{Fails, Memory}
 use Rattle.judge_core.specs.declared.verdict.CutVerdict.{CutVerdict}
-use Rattle.judge_core.specs.declared.verdict.CutVerdict.TheVariants as cuts
 use Rattle.judge_core.specs.Verdicts.{Bench, bench}
 use Rattle.judge_core.specs.Steps.{IsRefusal, IsSeen, JudgesMessage, Says, Stops, values_of}
 use Rattle.judge_core.proofs.ResultLemmas.{if_ok}

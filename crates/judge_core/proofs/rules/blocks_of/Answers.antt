@@ -1,5 +1,5 @@
-use Rattle.std.proofs.Common.{arith, sym, ◌∙◌}
-use Rattle.judge_core.proofs.SumLemmas.{blocks_in, sum_more, taken_as_kept}
+use Rattle.std.proofs.Common.{arith}
+use Rattle.judge_core.proofs.SumLemmas.{blocks_in, sum_more}
 use Rattle.judge_core.proofs.rules.blocks_of.Goals as goal
 
 pub loop-place-preserved : goal.loop-place-preserved

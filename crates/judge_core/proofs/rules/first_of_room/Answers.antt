@@ -1,5 +1,5 @@
-use Rattle.std.proofs.Common.{◌≡◌, ◌≤◌, ◌<◌, ◌-◌, ◌^◌, ℕ, List, [], ◌∷◌, ◌++◌, length, Option, Some, None, inl, inr, refl, sym, subst, arith}
-use Rattle.der_core.specs.Asked.{Asked, asked}
+use Rattle.std.proofs.Common.{◌≡◌, ◌≤◌, ◌<◌, ◌-◌, ◌^◌, ℕ, List, [], ◌∷◌, ◌++◌, length, Option, Some, None, inl, inr, sym, subst, arith}
+use Rattle.der_core.specs.Asked.{asked}
 use Rattle.module_record.specs.declared.module.Module.{Module}
 use Rattle.package_rules.specs.Conditions.{overflow_conditions}
 use Rattle.sha2.specs.Sha256.{sha256}

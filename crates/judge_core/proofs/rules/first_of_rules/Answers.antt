@@ -1,4 +1,4 @@
-use Rattle.std.proofs.Common.{◌≡◌, ℕ, List, length, Option, Some, None, subst}
+use Rattle.std.proofs.Common.{length, Some, None, subst}
 use Rattle.der_core.specs.Asked.{AllHold, FirstFail}
 use Rattle.sha2.specs.Sha256.{sha256}
 use Rattle.package_attrs.specs.Description.{description}

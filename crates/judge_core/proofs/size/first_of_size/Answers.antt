@@ -1,7 +1,5 @@
 use Rattle.std.proofs.Common.{◌≡◌, ℕ, List, ◌++◌, length, inl, inr, arith, subst}
 use Rattle.der_core.specs.Head.{head_octets, IsHead}
-use Rattle.judge_core.specs.Conditions.{IsItem}
-use Rattle.judge_core.specs.Steps.{BeginsLike}
 use Rattle.judge_core.proofs.SizeLemmas.{begins, no_head, size_is, item_of}
 use Rattle.judge_core.proofs.size.first_of_size.Goals as goal
 use Rattle.judge_core.proofs.size.first_of_size.Goals.{then-tag-ne-SEQUENCE-via-then-tag-ne-SEQUENCE, then-tag-ne-SEQUENCE-via-else-tag-ne-SEQUENCE+then-rest-from}
