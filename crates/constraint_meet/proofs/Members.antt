@@ -75,7 +75,7 @@ abbrev has : List ℕ → ContentConstraint → Bool
 has content entry = bytes_eq entry.content content
 
 -- types that differ from one are those of no entry that has it
-none_has : (content : List ℕ) (entries : List ContentConstraint)
+pub none_has : (content : List ℕ) (entries : List ContentConstraint)
     → ((other : ContentConstraint) → Contains entries other → other.content ≡ content → ⊥)
     → entry_for content entries ≡ None
 none_has content [] none = refl

@@ -108,7 +108,7 @@ covers_tells kind listed value these those =
     (both_tell (bytes_eq kind target_hardware_ids) (targets_cover listed value)
     (bytes_eq-Decides kind target_hardware_ids) (targets listed value these those)))
 
-covered_tells : (constrained : Attribute) (value : List ℕ) → AreOctets constrained.values → AreOctets value
+pub covered_tells : (constrained : Attribute) (value : List ℕ) → AreOctets constrained.values → AreOctets value
     → Decides (is_covered constrained value) (IsCovered constrained value)
 covered_tells constrained value these those =
     any_tells (λ listed. covers constrained.kind listed value) (λ listed. Covers constrained.kind listed value)

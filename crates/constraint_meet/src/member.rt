@@ -14,8 +14,8 @@ use cert_fields::{Ccc, CccEntry};
 use std::alloc::AllocError;
 use std::marker::Model;
 
-// 1.2.840.113549.1.9.16.1.0, id-ct-anyContentType (RFC 6010, section 3).
-const ANY_CONTENT: [u8; 11] = [0x2a, 0x86, 0x48, 0x86, 0xf7, 0x0d, 0x01, 0x09, 16, 1, 0];
+/// The contents of id-ct-anyContentType, 1.2.840.113549.1.9.16.1.0 (RFC 6010, section 3).
+pub const ANY_CONTENT: [u8; 11] = [0x2a, 0x86, 0x48, 0x86, 0xf7, 0x0d, 0x01, 0x09, 16, 1, 0];
 
 impl<'a> Indexed<'a> {
     // The entry that decides for a content type, and how many octets follow it.
