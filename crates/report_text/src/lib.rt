@@ -7,7 +7,9 @@
 //!   is installed (`ok`).
 //! - `put_rehearsal_head`, `put_accepted` and `put_refused` append exactly the lines of a
 //!   rehearsal's moment, of a package that is accepted, and of a condition that fails (`ok`).
-//! - For want of memory, the one refusal of these, the list stays as it was (`err`).
+//! - `push_oid` and `push_hex` append exactly the dotted text of an identifier and the hex of octets
+//!   to a text (`ok`).
+//! - For want of memory, the one refusal of these, a list stays as it was (`err`).
 //! - `dotted_text_is_of_its_numbers` is the law that an object identifier is printed by the numbers
 //!   that spell it.
 //!
@@ -28,5 +30,7 @@ mod state;
 pub use identifier::put_identifier_line;
 pub use laws::dotted_text_is_of_its_numbers;
 pub use list::put_list;
+pub use name::push_hex;
+pub use oid::push_oid;
 pub use rehearsal::{put_accepted, put_refused, put_rehearsal_head};
 pub use state::put_state;

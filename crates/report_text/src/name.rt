@@ -8,8 +8,8 @@ use package_attrs::{PackageName, Stale};
 use std::alloc::{AllocError, Global};
 use std::fmt::Write;
 
-// Octets as lower case hex.
-pub(crate) fn push_hex(alloc: Global, line: &mut String, octets: &[u8]) -> Result<(), AllocError>
+/// Appends octets as lower case hex.
+pub fn push_hex(alloc: Global, line: &mut String, octets: &[u8]) -> Result<(), AllocError>
     ensures ok { OnOk result
         (string_bytes line.new ≡ string_bytes line.old ++ encode_lower octets.now) }
 {
