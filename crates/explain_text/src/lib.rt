@@ -1,0 +1,39 @@
+//! The lines by which it is explained what a package's path permits; the forms are this project's
+//! own, and what is permitted is RFC 6010's (section 3).
+//!
+//! - `put_path` and `put_verdict` append exactly the lines of a path and of a verdict (`ok`).
+//! - `put_grant` appends the lines of what the members of a path let through together (`ok`): for each
+//!   content type that one of them names, and for every other type, whether each member has a
+//!   deciding entry that says canSource; and for each type of attributes that these entries
+//!   constrain, exactly those listed values that every one of them covers.
+//! - For want of memory, the one refusal of these, the list stays as it was (`err`).
+//! - `one_grant_text` is the law that a grant has one text at most, and `other_stands_for_the_rest`
+//!   the law that the last lines are those of each type that no member names.
+//!
+//! Below it stand `constraint_meet`, with what is permitted, `cert_fields`, with the constraints in
+//! place, and `report_text`, with the lines of identifiers and conditions.
+//!
+//! Content types, types of attributes and values are sorted, and looked up in what is sorted: for
+//! each content type the lines take n log n time in the sizes of the entries that decide for it.
+//! Values of firmwarePackageID and targetHardwareIDs alone are compared each with each. Memory is
+//! linear in the constraints, and in the lines. No clause says what a call costs.
+#![tactic(auto)]
+
+mod grant;
+mod group;
+mod laws;
+mod listed;
+mod member;
+mod ordered;
+mod path;
+mod sources;
+#[cfg(test)]
+mod tests;
+mod types;
+mod values;
+mod verdict;
+
+pub use grant::put_grant;
+pub use laws::{one_grant_text, other_stands_for_the_rest};
+pub use path::put_path;
+pub use verdict::put_verdict;
