@@ -6,3 +6,4 @@ pub mod Entries
 pub mod Groups
 pub mod AddedTypes
 pub mod Shares
+pub mod Permitted

@@ -11,8 +11,7 @@ use Rattle.constraint_meet.specs.Permits.{any_content}
 use Rattle.report_text.specs.Dotted.{dotted_of}
 use Rattle.explain_text.specs.Granted.{sources_of, constrained_by}
 use Rattle.explain_text.specs.GrantText.{kind_line, allow_line, deny_line, IsKindLine, AreKindLines, AreTypeLines, AreLinesOf, IsGrantText}
-use Rattle.explain_text.specs.Kept.{Adds}
-use Rattle.explain_text.specs.Ordered.{AreTexts}
+use Rattle.explain_text.specs.Ordered.{Adds, AreTexts}
 use Rattle.explain_text.proofs.Orders.{one_list}
 
 -- ---- one after the other

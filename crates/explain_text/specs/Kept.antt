@@ -1,6 +1,6 @@
--- What is kept while the lines are made: entries, attributes and texts, in order. Nothing here has to be believed but that
--- a text was added.
-use Rattle.std.specs.Prelude.{◌≡◌, ◌↔◌, ℕ, List, ◌++◌, Contains, IsPermutation, bytes_eq, map}
+-- What is kept while the lines are made: entries and attributes, in order. Nothing here has to be believed: no public
+-- clause names it.
+use Rattle.std.specs.Prelude.{◌≡◌, ◌↔◌, ℕ, List, Contains, IsPermutation, bytes_eq, map}
 use Rattle.std.specs.List.{IsDistinct}
 use Rattle.std.specs.List.Sorted.{IsSortedBy}
 use Rattle.std.specs.Cmp.Lexicographic.{slice_cmp}
@@ -11,10 +11,6 @@ use Rattle.cert_fields.specs.Constraints.{ContentConstraint}
 use Rattle.cert_fields.specs.ConstraintsView.{entry_view}
 use Rattle.cert_fields.specs.declared.entries.CccEntry.{CccEntry}
 use Rattle.constraint_meet.specs.Permits.{any_content, values_in, IsCovered}
-
--- octets behind others are a text
-abbrev pub Adds : (List ℕ → Type 0) → List ℕ → List ℕ → Type 0
-Adds IsText before after = (text : List ℕ) × IsText text × (after ≡ before ++ text)
 
 -- the content types don't descend
 abbrev pub AscendByContent : List CccEntry → Type 0

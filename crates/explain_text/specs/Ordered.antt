@@ -1,4 +1,4 @@
--- Texts in ascending order of their octets, each of them once.
+-- Texts in ascending order of their octets, each of them once, and texts one after the other.
 use Rattle.std.specs.Prelude.{◌≡◌, ◌↔◌, ℕ, List, [], ◌∷◌, ◌++◌, Contains, map}
 use Rattle.std.specs.Borrow.{Bor}
 use Rattle.std.specs.Cmp.Lexicographic.{slice_cmp}
@@ -15,6 +15,10 @@ abbrev pub AreTexts : {X : Type 0} → (X → List ℕ → Type 0) → List X �
 AreTexts IsText [] octets = octets ≡ []
 AreTexts IsText (x ∷ xs) octets =
     (text : List ℕ) × (rest : List ℕ) × IsText x text × AreTexts IsText xs rest × (octets ≡ text ++ rest)
+
+-- octets behind others are a text
+abbrev pub Adds : (List ℕ → Type 0) → List ℕ → List ℕ → Type 0
+Adds IsText before after = (text : List ℕ) × IsText text × (after ≡ before ++ text)
 
 -- octets that are lent
 abbrev pub lent : List (Bor (List ℕ)) → List (List ℕ)

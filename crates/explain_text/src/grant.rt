@@ -5,8 +5,8 @@ ghost use Rattle.constraint_meet.specs.Grants.{Members};
 ghost use Rattle.report_text.specs.Dotted.{dotted_of};
 ghost use Rattle.explain_text.specs.Granted.{sources_of};
 ghost use Rattle.explain_text.specs.GrantText.{AreKindLines, AreLinesOf, AreTypeLines, IsGrantText, IsKindLine};
-ghost use Rattle.explain_text.specs.Kept.{AscendByKind, Adds};
-ghost use Rattle.explain_text.specs.Ordered.{AreTexts};
+ghost use Rattle.explain_text.specs.Kept.{AscendByKind};
+ghost use Rattle.explain_text.specs.Ordered.{Adds, AreTexts};
 
 use crate::group::group_of;
 use crate::member::{Member, members_of};

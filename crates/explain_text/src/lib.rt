@@ -7,8 +7,11 @@
 //!   deciding entry that says canSource; and for each type of attributes that these entries
 //!   constrain, exactly those listed values that every one of them covers.
 //! - For want of memory, the one refusal of these, the list stays as it was (`err`).
-//! - `one_grant_text` is the law that a grant has one text at most, and `other_stands_for_the_rest`
-//!   the law that the last lines are those of each type that no member names.
+//! - `one_grant_text` is the law that a grant has one text at most. `lines_tell_what_is_permitted` says
+//!   that `allow` stands where `permits` of `constraint_meet` is true of no attributes (`allow`), and
+//!   that the values after it are those listed ones with which it is true of one attribute (`values`).
+//!   `other_stands_for_the_rest` is the law that the last lines are those of each type that no member
+//!   names (`decides`, `sources`).
 //!
 //! Below it stand `constraint_meet`, with what is permitted, `cert_fields`, with the constraints in
 //! place, and `report_text`, with the lines of identifiers and conditions.
@@ -34,6 +37,6 @@ mod values;
 mod verdict;
 
 pub use grant::put_grant;
-pub use laws::{one_grant_text, other_stands_for_the_rest};
+pub use laws::{lines_tell_what_is_permitted, one_grant_text, other_stands_for_the_rest};
 pub use path::put_path;
 pub use verdict::put_verdict;

@@ -8,7 +8,7 @@ use package_attrs::{PackageName, Stale};
 use std::alloc::{AllocError, Global};
 use std::fmt::Write;
 
-/// Appends octets as lower case hex.
+/// Appends octets as lower case hex. For want of memory some of them may have been appended.
 pub fn push_hex(alloc: Global, line: &mut String, octets: &[u8]) -> Result<(), AllocError>
     ensures ok { OnOk result
         (string_bytes line.new ≡ string_bytes line.old ++ encode_lower octets.now) }

@@ -39,7 +39,8 @@ fn push_numbers(line: &mut String, numbers: &[u128]) -> Result<(), AllocError>
     Ok(())
 }
 
-/// Appends an object identifier, as its numbers with dots between them.
+/// Appends an object identifier, as its numbers with dots between them. For want of memory some of it
+/// may have been appended.
 pub fn push_oid(alloc: Global, line: &mut String, id: &Oid) -> Result<(), AllocError>
     ensures ok { OnOk result
         (string_bytes line.new ≡ string_bytes line.old ++ dotted_of id.now) }

@@ -2,8 +2,8 @@ use Rattle.std.proofs.Common.{◌++◌, ◌∷◌, [], List, ℕ, map, take, str
 use Rattle.std.proofs.lemmas.List.{take_more}
 use Rattle.der_core.specs.AttributeView.{attribute_view}
 use Rattle.explain_text.specs.GrantText.{kind_line, IsKindLine}
-use Rattle.explain_text.specs.Kept.{Adds, IsGroup}
-use Rattle.explain_text.specs.Ordered.{AreTexts}
+use Rattle.explain_text.specs.Kept.{IsGroup}
+use Rattle.explain_text.specs.Ordered.{Adds, AreTexts}
 use Rattle.explain_text.proofs.Shares.{shared_of_group}
 use Rattle.explain_text.proofs.Texts.{adds_more}
 use Rattle.explain_text.proofs.grant.push_each_kind.Goals as goal

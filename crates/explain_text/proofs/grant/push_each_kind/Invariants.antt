@@ -1,8 +1,7 @@
 use Rattle.std.proofs.Common.{map, take, string_bytes}
 use Rattle.der_core.specs.AttributeView.{attribute_view}
 use Rattle.explain_text.specs.GrantText.{IsKindLine}
-use Rattle.explain_text.specs.Kept.{Adds}
-use Rattle.explain_text.specs.Ordered.{AreTexts}
+use Rattle.explain_text.specs.Ordered.{Adds, AreTexts}
 use Rattle.explain_text.proofs.grant.push_each_kind.Given as goal
 
 -- the lines of the types so far

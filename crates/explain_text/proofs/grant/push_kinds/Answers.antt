@@ -4,8 +4,7 @@ use Rattle.der_core.specs.AttributeView.{attribute_view}
 use Rattle.der_core.specs.declared.attribute.Attr.{Attr}
 use Rattle.explain_text.specs.Granted.{IsKind}
 use Rattle.explain_text.specs.GrantText.{IsKindLine}
-use Rattle.explain_text.specs.Kept.{Adds}
-use Rattle.explain_text.specs.Ordered.{AreExactly, AreTexts}
+use Rattle.explain_text.specs.Ordered.{Adds, AreExactly, AreTexts}
 use Rattle.explain_text.proofs.Shares.{same_lines}
 use Rattle.explain_text.proofs.Texts.{on_ok}
 use Rattle.explain_text.proofs.grant.push_kinds.Goals as goal

@@ -2,7 +2,7 @@ use Rattle.std.proofs.Common.{List, ℕ, string_bytes, ap, subst, ◌++◌, ◌�
 use Rattle.report_text.specs.Dotted.{dotted_of}
 use Rattle.explain_text.specs.Granted.{sources_of}
 use Rattle.explain_text.specs.GrantText.{AreTypeLines}
-use Rattle.explain_text.specs.Kept.{Adds}
+use Rattle.explain_text.specs.Ordered.{Adds}
 use Rattle.explain_text.proofs.grant.push_own_type.Goals as goal
 
 pub returns : goal.returns

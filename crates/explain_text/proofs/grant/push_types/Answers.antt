@@ -1,8 +1,7 @@
 use Rattle.std.proofs.Common.{◌++◌, ◌∷◌, [], List, ℕ, take, string_bytes, sym, ap, subst, ◌∙◌}
 use Rattle.std.proofs.lemmas.List.{take_more}
 use Rattle.explain_text.specs.GrantText.{AreLinesOf}
-use Rattle.explain_text.specs.Kept.{Adds}
-use Rattle.explain_text.specs.Ordered.{AreTexts}
+use Rattle.explain_text.specs.Ordered.{Adds, AreTexts}
 use Rattle.explain_text.proofs.Texts.{adds_more}
 use Rattle.explain_text.proofs.grant.push_types.Goals as goal
 

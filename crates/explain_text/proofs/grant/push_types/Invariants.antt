@@ -1,7 +1,6 @@
 use Rattle.std.proofs.Common.{take, string_bytes}
 use Rattle.explain_text.specs.GrantText.{AreLinesOf}
-use Rattle.explain_text.specs.Kept.{Adds}
-use Rattle.explain_text.specs.Ordered.{AreTexts}
+use Rattle.explain_text.specs.Ordered.{Adds, AreTexts}
 use Rattle.explain_text.proofs.grant.push_types.Given as goal
 
 -- the lines of the content types so far
