@@ -1,5 +1,5 @@
 -- What every command's run has in common.
-use Rattle.std.proofs.Common.{◌≡◌, ◌≤◌, ◌∙◌, ℕ, true, false, length, Option, Some, ap, subst, sym, arith}
+use Rattle.std.proofs.Common.{◌≡◌, ◌≤◌, ◌∙◌, ℕ, true, false, length, Option, Some, None, ap, subst, sym, arith}
 use Rattle.fwload_top.specs.declared.words.Command.{Command}
 use Rattle.fwload_top.specs.declared.words.Command.TheVariants as commands
 use Rattle.fwload_top.specs.declared.status.Status.{Status}
@@ -22,6 +22,8 @@ use Rattle.fwload_top.specs.Making.{making, HasForm}
 use Rattle.fwload_top.specs.Making.Outcome.{held, bad_line as bad_holder_line, small, made}
 use Rattle.fwload_top.specs.List.{list}
 use Rattle.fwload_top.specs.List.Outcome.{no_module, listed}
+use Rattle.fwload_top.specs.Explain.{explain}
+use Rattle.fwload_top.specs.Explain.Outcome.{no_module as none_to_explain, explained}
 use Rattle.fwload_top.specs.declared.signing.Product.{Product}
 use Rattle.fwload_top.specs.declared.signing.Product.TheVariants.{Certificate, Package}
 use Rattle.fwload_top.specs.Signing as signings
@@ -81,6 +83,11 @@ list_completes : (r : Seen) → NeverRefuses list r
 list_completes r no_module comes ready = comes.cells ready.board.0 ready.board.1 ready.board.2 ready.board.3
 list_completes r (listed m sequence spent state) comes ready = tt
 
+explain_completes : (at : ℕ) (r : Seen) → NeverRefuses (explain at) r
+explain_completes at r none_to_explain comes ready = comes.cells ready.board.0 ready.board.1 ready.board.2 ready.board.3
+explain_completes at r (explained m sequence state None lines) comes ready = tt
+explain_completes at r (explained m sequence state (Some number) lines) comes ready = tt
+
 signing_completes : (p : Product) (r : Seen) → NeverRefuses (signing p) r
 signing_completes p r no_key comes ready = comes.cells ready.board.0 ready.board.1 ready.board.3.holds
 signing_completes p r (bad_line n) comes ready =
@@ -104,6 +111,7 @@ not_usage commands.Ident r run is = no_usage r run is
 not_usage commands.Sigcheck r run is = no_usage r run is
 not_usage (commands.Rehearse at) r run is = no_usage r run is
 not_usage commands.KeyNew r run is = no_usage r run is
+not_usage (commands.Explain at) r run is = no_usage r run is
 not_usage commands.Make r run is = no_usage r run is
 not_usage commands.List r run is = no_usage r run is
 not_usage commands.Issue r run is = no_usage r run is
@@ -114,6 +122,7 @@ causes_of commands.Ident r run = run.causes
 causes_of commands.Sigcheck r run = run.causes
 causes_of (commands.Rehearse at) r run = run.causes
 causes_of commands.KeyNew r run = run.causes
+causes_of (commands.Explain at) r run = run.causes
 causes_of commands.Make r run = run.causes
 causes_of commands.List r run = run.causes
 causes_of commands.Issue r run = run.causes
@@ -126,6 +135,8 @@ completes_command commands.Ident r run ready calm = completes ident r (ident_com
 completes_command commands.Sigcheck r run ready calm = completes sigcheck r (sigcheck_completes r) run ready calm
 completes_command (commands.Rehearse at) r run ready calm =
     completes (rehearse at) r (rehearse_completes at r) run ready calm
+completes_command (commands.Explain at) r run ready calm =
+    completes (explain at) r (explain_completes at r) run ready calm
 completes_command commands.KeyNew r run ready calm =
     completes (making holder_kinds.Key) r (making_completes holder_kinds.Key r) run ready calm
 completes_command commands.Make r run ready calm =

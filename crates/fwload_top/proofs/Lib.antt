@@ -3,9 +3,10 @@ pub mod MomentLemmas
 pub mod AnswersOnceLemmas
 pub mod BadLineLemmas
 pub mod MakingLemmas
+pub mod StandingLemmas
+pub mod ExplainLemmas
 pub mod SigningLemmas
 pub mod CommandLemmas
-pub mod VerdictLemmas
 pub mod RehearsalLemmas
 pub mod OneAnswer
 pub mod TripleLaws

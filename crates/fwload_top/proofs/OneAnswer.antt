@@ -13,7 +13,8 @@ use Rattle.attribute_set.proofs.Readings.{one_set}
 use Rattle.package_attrs.specs.Attributes.{HaveOwnTypes}
 use Rattle.package_attrs.proofs.PackageLaws.{one_description}
 use Rattle.package_rules.specs.Module.{Module}
-use Rattle.fwload_top.specs.Step.{Verdict, accepted, refused, after, package_conditions, JudgesAttributes}
+use Rattle.judge_core.specs.Rehearsal.{Verdict, after, package_conditions, JudgesAttributes}
+use Rattle.judge_core.specs.Rehearsal.Verdict.{accepted, refused}
 use Rattle.fwload_top.specs.Verdicts.{Holds, Judges, JudgesAll}
 use Rattle.fwload_top.specs.Rehearse.{AreSets, Rehearses, rehearsal_module, rehearsal_lines, is_one_refused}
 

@@ -13,7 +13,8 @@ use Rattle.der_core.specs.Element.{enc, IsElement, HasTagged}
 use Rattle.fwload_top.specs.declared.rehearsal.Rehearsal.{Rehearsal}
 use Rattle.package_rules.specs.Module.{Module}
 use Rattle.report_text.specs.Lines.{rehearsal_head, refused_line}
-use Rattle.fwload_top.specs.Step.{Verdict, refused, after}
+use Rattle.judge_core.specs.Rehearsal.{Verdict, after}
+use Rattle.judge_core.specs.Rehearsal.Verdict.{refused}
 use Rattle.fwload_top.specs.Verdicts.{Judges, JudgesAll, after_all, is_refused}
 use Rattle.fwload_top.specs.Rehearse.{Rehearses, answer_status, rehearsal_module, rest_line, verdict_line}
 use Rattle.fwload_top.specs.Rehearse.{installed_lines}

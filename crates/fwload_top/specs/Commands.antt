@@ -13,6 +13,7 @@ use Rattle.fwload_top.specs.Rehearse.{rehearse}
 use Rattle.fwload_top.specs.declared.making.HolderKind.TheVariants as holder_kinds
 use Rattle.fwload_top.specs.Making.{making}
 use Rattle.fwload_top.specs.List.{list}
+use Rattle.fwload_top.specs.Explain.{explain}
 use Rattle.fwload_top.specs.declared.signing.Product.TheVariants.{Certificate, Package}
 use Rattle.fwload_top.specs.Signing.{signing}
 
@@ -34,6 +35,7 @@ abbrev pub promise : Command → Promise
 promise commands.Ident = once ident
 promise commands.Sigcheck = once sigcheck
 promise (commands.Rehearse at) = once (rehearse at)
+promise (commands.Explain at) = once (explain at)
 promise commands.KeyNew = once (making holder_kinds.Key)
 promise commands.Make = once (making holder_kinds.Module)
 promise commands.List = once list

@@ -10,12 +10,12 @@ pub mod Reply
 pub mod Ident
 pub mod Sigcheck
 pub mod TripleReading
-pub mod Step
 pub mod Verdicts
-pub mod VerdictView
 pub mod Rehearse
 pub mod Rehearsal
 pub mod BadLine
 pub mod Making
+pub mod Standing
 pub mod List
+pub mod Explain
 pub mod Signing

@@ -1,7 +1,7 @@
 -- `list`: the lines of the module that holds the board.
-use Rattle.std.specs.Prelude.{◌≡◌, ℕ, ◌+◌, ◌*◌, ◌≤◌, List, [], length}
+use Rattle.std.specs.Prelude.{◌≡◌, ℕ, ◌+◌, ◌*◌, ◌≤◌, List, []}
 use Rattle.key_state.specs.Row.{spent_in}
-use Rattle.config_table.specs.State.{State, state_with}
+use Rattle.config_table.specs.State.{State}
 use Rattle.module_record.specs.declared.module.Module.{Module}
 use Rattle.bank_layout.specs.Layout.{first_image_block}
 use Rattle.bank_layout.specs.Recovery.{Standing, Recovers}
@@ -10,19 +10,12 @@ use Rattle.report_text.specs.ListLines.{list_lines}
 use Rattle.fwload_top.specs.declared.status.Status.TheVariants.{Done, NotAModule}
 use Rattle.fwload_top.specs.Meaning.{Meaning, Answer, any, says, stay}
 use Rattle.fwload_top.specs.Meaning.Input.{unread}
+use Rattle.fwload_top.specs.Standing.{HasNoModule, StandsAt}
 
--- no module holds the board
-abbrev pub HasNoModule : List ℕ → Type 0
-HasNoModule cells = (m : Module) (standing : Standing) → ¬ Recovers cells (module_board m standing)
-
--- The board recovers to this module, at this sequence number, with so many leaves of its key spent and this state, whose
--- images are given by their lengths.
+-- It recovers so, and so many leaves of the module's key are spent.
 pub record IsListed (cells : List ℕ) (m : Module) (sequence spent : ℕ) (state : State ℕ) : Type 0 where
-  pub standing : Standing
-  pub recovers : Recovers cells (module_board m standing)
-  pub sequence_is : sequence ≡ standing.sequence
-  pub spent_is : spent ≡ spent_in standing.row
-  pub state_is : state ≡ state_with (λ (octets : List ℕ). length octets) standing.state
+  pub stands : StandsAt cells m sequence state
+  pub spent_is : spent ≡ spent_in stands.standing.row
 
 -- What a run may come to.
 pub data Outcome : Type 0 where

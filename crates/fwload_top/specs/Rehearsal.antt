@@ -4,7 +4,7 @@ use Rattle.std.specs.List.{AllByRecursion, flat_map, list_any}
 use Rattle.der_core.specs.Element.{enc, IsElement}
 use Rattle.package_rules.specs.Module.{Module}
 use Rattle.fwload_top.specs.declared.rehearsal.Rehearsal.{Rehearsal}
-use Rattle.fwload_top.specs.Step.{Verdict, after}
+use Rattle.judge_core.specs.Rehearsal.{Verdict, after}
 use Rattle.fwload_top.specs.Verdicts.{Judges, JudgesAll, after_all, is_refused}
 use Rattle.fwload_top.specs.Rehearse.{verdict_line}
 

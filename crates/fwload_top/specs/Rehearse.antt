@@ -11,7 +11,8 @@ use Rattle.fwload_top.specs.declared.status.Status.{Status}
 use Rattle.fwload_top.specs.declared.status.Status.TheVariants.{Done, SomeRefused}
 use Rattle.fwload_top.specs.Meaning.{Meaning, Answer, says, any, any_board}
 use Rattle.fwload_top.specs.Meaning.Input.{read}
-use Rattle.fwload_top.specs.Step.{Verdict, accepted, refused}
+use Rattle.judge_core.specs.Rehearsal.{Verdict}
+use Rattle.judge_core.specs.Rehearsal.Verdict.{accepted, refused}
 use Rattle.fwload_top.specs.Verdicts.{JudgesAll, after_all, is_refused}
 
 -- The module that packages are rehearsed for: its hardware type is 1.2.3 and its serial number 00 01, it is in the

@@ -6,7 +6,8 @@ use Rattle.attribute_set.specs.AttributeSet.{set_contents, IsAttributeSet}
 use Rattle.config_table.specs.State.{State}
 use Rattle.config_table.specs.Stored.{Stored}
 use Rattle.package_rules.specs.Module.{Module}
-use Rattle.fwload_top.specs.Step.{Verdict, accepted, refused, after, JudgesAttributes}
+use Rattle.judge_core.specs.Rehearsal.{Verdict, after, JudgesAttributes}
+use Rattle.judge_core.specs.Rehearsal.Verdict.{accepted, refused}
 
 -- the contents of the set are these attributes, in ascending order and of different types (RFC 5652, section 5.3)
 abbrev pub Holds : List ℕ → List Attribute → Type 0

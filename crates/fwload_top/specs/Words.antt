@@ -17,6 +17,7 @@ words_of commands.List = codes "list" ∷ []
 words_of commands.Issue = codes "issue" ∷ []
 words_of commands.Pack = codes "pack" ∷ []
 words_of (commands.Rehearse at) = codes "rehearse" ∷ last_digits 14 at ∷ []
+words_of (commands.Explain at) = codes "explain" ∷ last_digits 14 at ∷ []
 
 -- what the command speaks of is in its range
 abbrev pub IsCommand : Command → Type 0
@@ -28,6 +29,7 @@ IsCommand commands.List = Unit {0}
 IsCommand commands.Issue = Unit {0}
 IsCommand commands.Pack = Unit {0}
 IsCommand (commands.Rehearse at) = IsMoment at
+IsCommand (commands.Explain at) = IsMoment at
 
 -- these words behind the flash file's name are the command's
 abbrev pub Denotes : List (List ℕ) → Command → Type 0

@@ -5,6 +5,7 @@ ghost use Rattle.fwload_top.specs.Seen.{seen};
 ghost use Rattle.fwload_top.specs.HasCauses.{HasCauses};
 ghost use Rattle.fwload_top.specs.Commands.{promise, Completes};
 
+use crate::explain::explain;
 use crate::ident::ident;
 use crate::list::list;
 use crate::making::{HolderKind, make};
@@ -68,6 +69,7 @@ fn obey<S: Source, B: Board>(
         Command::Ident => ident(alloc, source, board),
         Command::Sigcheck => sigcheck(alloc, source, board),
         Command::Rehearse(at) => rehearse(alloc, at, source, board),
+        Command::Explain(at) => explain(alloc, at, source, board),
         Command::KeyNew => make(alloc, HolderKind::Key, source, board),
         Command::Make => make(alloc, HolderKind::Module, source, board),
         Command::List => list(alloc, board),

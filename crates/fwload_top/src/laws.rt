@@ -6,13 +6,14 @@ ghost use Rattle.bank_layout.specs.Recovery.{HoldsKey};
 ghost use Rattle.package_rules.specs.Module.{Module};
 ghost use Rattle.config_table.specs.State.{State};
 ghost use Rattle.config_table.specs.Stored.{Stored};
-ghost use Rattle.fwload_top.specs.Step.{Verdict};
+ghost use Rattle.judge_core.specs.Rehearsal.{Verdict};
 ghost use Rattle.fwload_top.specs.Verdicts.{Judges};
 ghost use Rattle.fwload_top.specs.Meaning.{WritesNoFlash};
 ghost use Rattle.fwload_top.specs.Ident.{ident};
 ghost use Rattle.fwload_top.specs.Sigcheck.{sigcheck};
 ghost use Rattle.fwload_top.specs.Rehearse.{Rehearses, rehearse};
 ghost use Rattle.fwload_top.specs.List.{list};
+ghost use Rattle.fwload_top.specs.Explain.{explain};
 ghost use Rattle.fwload_top.specs.AnswersOnce.{CutLeaves};
 ghost use Rattle.fwload_top.specs.declared.signing.Product.{Product};
 ghost use Rattle.fwload_top.specs.Signing.{signing, SignsNothing};
@@ -29,12 +30,13 @@ pub fn one_rehearsal()
         → (one ≡ other) × (refuses ≡ refuses') }
 {}
 
-/// A law: `ident`, `sigcheck`, `rehearse` and `list` write no flash.
+/// A law: `ident`, `sigcheck`, `rehearse`, `list` and `explain` write no flash.
 pub fn no_flash_is_written()
     ensures ident { WritesNoFlash ident }
     ensures sigcheck { WritesNoFlash sigcheck }
     ensures rehearse { (at : ℕ) → WritesNoFlash (rehearse at) }
     ensures list { WritesNoFlash list }
+    ensures explain { (at : ℕ) → WritesNoFlash (explain at) }
 {}
 
 /// A law: whatever moment of `issue` or `pack` a power cut falls into, on a board that a key holds, the

@@ -28,12 +28,15 @@
 //!   verdict at most over a state, and an input one answer: that is the law `one_rehearsal`.
 //! - `key-new` makes a key board of a board that nobody holds, and `make` a module's.
 //! - `list` prints the module that holds the board, how far it has come, and what is installed.
+//! - `explain` prints what the path of a package permits, and the verdict on it by the module that
+//!   holds the board: accepted exactly where all 41 conditions hold (RFC 4108, RFC 5652, RFC 5280,
+//!   RFC 6010).
 //! - `issue` and `pack` send the certificate and the package whose recipe the input is, signed with
 //!   the next leaf of the key that holds the board (RFC 5280, section 4.1; RFC 4108, section 2). What a
 //!   power cut at any moment of them leaves is a run that signs with that leaf, or one that signs
 //!   nothing: that is the law `cuts_leave_signing_runs` (`runs`, `holds`), and over all such runs
 //!   `no_leaf_signs_twice` of `packager` is said.
-//! - `ident`, `sigcheck`, `rehearse` and `list` write no flash: that is the law
+//! - `ident`, `sigcheck`, `rehearse`, `list` and `explain` write no flash: that is the law
 //!   `no_flash_is_written`.
 //!
 //! Below it stand `edge_board` (the source and the board), `attribute_set` and `package_attrs`
@@ -56,6 +59,7 @@
 
 mod bad_line;
 mod dispatch;
+mod explain;
 mod ident;
 mod identity;
 mod input;

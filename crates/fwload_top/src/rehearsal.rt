@@ -3,16 +3,17 @@ ghost use Rattle.std.specs.Prelude.{◌≡◌, ◌++◌, ◌||◌, [], false, If
 ghost use Rattle.der_core.specs.Element.{HasTagged};
 ghost use Rattle.package_attrs.specs.Description.{description};
 ghost use Rattle.config_table.specs.State.{empty_state};
-ghost use Rattle.fwload_top.specs.Step.{accepted, refused};
+ghost use Rattle.judge_core.specs.Rehearsal.Verdict.{accepted, refused};
 ghost use Rattle.report_text.specs.Lines.{refused_line, rehearsal_head};
 ghost use Rattle.fwload_top.specs.Rehearse.{Rehearses, answer_status, installed_lines};
 ghost use Rattle.fwload_top.specs.Rehearsal.{Follows, JudgesOne, JudgesFront};
 
 use crate::Status;
 use crate::identity::Identity;
-use crate::step::{Verdict, condition, enter, judge};
+use crate::step::{condition, enter, judge};
 use config_table::State;
 use der_core::{Condition, Cursor, Moment, tags};
+use judge_core::Rehearsed;
 use package_attrs::Package;
 use package_rules::HardwareModule;
 use report_text::{put_accepted, put_refused, put_rehearsal_head, put_state};
@@ -95,8 +96,8 @@ impl Rehearsal {
         ensures { IfOk result (λ next. JudgesOne hardware.now self contents.now next) }
     {
         match judge(alloc, hardware, &self.state, contents)? {
-            Verdict::Accepted(package) => self.accept(alloc, &package),
-            Verdict::Refused(failing) => self.refuse(alloc, failing),
+            Rehearsed::Accept(package) => self.accept(alloc, &package),
+            Rehearsed::Refuse(failing) => self.refuse(alloc, failing),
         }
     }
 

@@ -1,28 +1,19 @@
 // The step of a rehearsal: the verdict on one attribute set, and what it leaves installed.
 ghost use Rattle.std.specs.Prelude.{◌≡◌, IfOk};
 ghost use Rattle.der_core.specs.Condition.{IsCondition};
-ghost use Rattle.package_attrs.specs.Attributes.{HaveOwnTypes};
 ghost use Rattle.package_attrs.specs.Description.{description};
-ghost use Rattle.fwload_top.specs.Step.{JudgesAttributes, after, accepted};
+ghost use Rattle.judge_core.specs.Rehearsal.{after, rehearsed_view};
+ghost use Rattle.judge_core.specs.Rehearsal.Verdict.{accepted};
 ghost use Rattle.fwload_top.specs.Verdicts.{Judges};
-ghost use Rattle.fwload_top.specs.VerdictView.{verdict_view};
 
-use attribute_set::{Attributes, read_attribute_set};
+use attribute_set::read_attribute_set;
 use config_table::{BlockNumbers, State};
 use der_core::Condition;
-use package_attrs::{Package, read_package};
-use package_rules::{HardwareModule, first_overflow, first_refusal};
+use judge_core::{Rehearsed, rehearse_step};
+use package_attrs::Package;
+use package_rules::HardwareModule;
 use sha2::{Digest, Sha256};
 use std::alloc::{AllocError, Global};
-
-// What is said of a set.
-#[derive(Drop)]
-pub(crate) enum Verdict<'a> {
-    // The package that its attributes are those of enters.
-    Accepted(Package<'a>),
-    // The least condition that fails.
-    Refused(Condition),
-}
 
 // The condition of a number that is one.
 pub(crate) fn condition(number: u8) -> Condition
@@ -41,33 +32,12 @@ pub(crate) fn judge<'a>(
     hardware: &HardwareModule<'_>,
     state: &State,
     contents: &'a [u8],
-) -> Result<Verdict<'a>, AllocError>
-    ensures { IfOk result (λ v. Judges hardware.now state.now contents.now (verdict_view v)) }
+) -> Result<Rehearsed<'a>, AllocError>
+    ensures { IfOk result (λ v. Judges hardware.now state.now contents.now (rehearsed_view v)) }
 {
     match read_attribute_set(alloc, contents)? {
-        Some(attributes) => Ok(judge_attributes(hardware, state, &attributes)),
-        None => Ok(Verdict::Refused(condition(16))),
-    }
-}
-
-// The verdict on a package's attributes.
-fn judge_attributes<'a>(
-    hardware: &HardwareModule<'_>,
-    state: &State,
-    attributes: &Attributes<'a>,
-) -> Verdict<'a>
-    requires distinct { HaveOwnTypes attributes.now }
-    ensures { JudgesAttributes hardware.now state.now attributes.now (verdict_view result) }
-{
-    let Some(package) = read_package(attributes) else {
-        return Verdict::Refused(condition(19));
-    };
-    if let Some(failing) = first_refusal(hardware, state, &package) {
-        return Verdict::Refused(failing);
-    }
-    match first_overflow(state, &package) {
-        Some(failing) => Verdict::Refused(failing),
-        None => Verdict::Accepted(package),
+        Some(attributes) => Ok(rehearse_step(hardware, state, &attributes)),
+        None => Ok(Rehearsed::Refuse(condition(16))),
     }
 }
 

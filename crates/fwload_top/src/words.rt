@@ -17,6 +17,9 @@ pub enum Command {
     /// Judge the attribute sets of the input as a module would that has nothing installed at first.
     /// The moment is printed, and means nothing else.
     Rehearse(Moment),
+    /// Explain the verdict on the package that the input is, at a moment, by the module that holds the
+    /// board: what its path permits, and the condition that it fails first.
+    Explain(Moment),
     /// Make a key board of a board that nobody holds, by the key recipe that the input is.
     KeyNew,
     /// Make a module's board of a board that nobody holds, by the module recipe that the input is.
@@ -67,11 +70,14 @@ fn without_argument(word: &str) -> Option<Command>
 fn with_moment(word: &str, digits: &str) -> Option<Command>
     ensures { (c : Command) → (result ≡ Some c) ↔ Denotes (word.now ∷ digits.now ∷ []) c }
 {
-    if word != "rehearse" {
-        return None;
-    }
     let at = moment_of(digits.as_bytes())?;
-    Some(Command::Rehearse(at))
+    if word == "rehearse" {
+        Some(Command::Rehearse(at))
+    } else if word == "explain" {
+        Some(Command::Explain(at))
+    } else {
+        None
+    }
 }
 
 // The moment that fourteen digits are: a GeneralizedTime without its Z (RFC 5280, section

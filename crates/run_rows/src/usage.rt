@@ -17,6 +17,10 @@ fn other_words_are_usage(rt: HostRuntime) -> Result<(), Fail> {
     is_usage(&rt, a, "f")?;
     is_usage(&rt, a, "f ident now")?;
     is_usage(&rt, a, "f loads 20250101000000")?;
+    is_usage(&rt, a, "f make now")?;
+    is_usage(&rt, a, "f list now")?;
+    is_usage(&rt, a, "f explain")?;
+    is_usage(&rt, a, "f explain 20251301000000")?;
     is_usage(&rt, a, "f rehearse")?;
     is_usage(&rt, a, "f rehearse 20250101000000 now")?;
     is_usage(&rt, a, "f rehearse 20251301000000")?;

@@ -15,6 +15,11 @@ returns-in-Rehearse g c = record {
   runs = as_asked c.args.command (commands.Rehearse c.in-Rehearse.at) _ c.in-Rehearse.is c.rehearse.ensures.runs;
 }
 
+pub returns-in-Explain : goal.returns-in-Explain
+returns-in-Explain g c = record {
+  runs = as_asked c.args.command (commands.Explain c.in-Explain.at) _ c.in-Explain.is c.explain.ensures.runs;
+}
+
 pub returns-in-KeyNew : goal.returns-in-KeyNew
 returns-in-KeyNew g c = record { runs = as_asked c.args.command commands.KeyNew _ c.in-KeyNew.is c.make.ensures.runs }
 

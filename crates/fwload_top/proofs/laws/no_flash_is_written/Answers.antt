@@ -8,6 +8,8 @@ use Rattle.fwload_top.specs.Rehearse.{rehearse}
 use Rattle.fwload_top.specs.Rehearse.Outcome.{rehearsed}
 use Rattle.fwload_top.specs.List.{list}
 use Rattle.fwload_top.specs.List.Outcome.{no_module, listed}
+use Rattle.fwload_top.specs.Explain.{explain}
+use Rattle.fwload_top.specs.Explain.Outcome.{no_module as none_to_explain, explained}
 use Rattle.fwload_top.proofs.laws.no_flash_is_written.Goals as goal
 
 ident_writes_none : WritesNoFlash ident
@@ -27,6 +29,10 @@ list_writes_none : WritesNoFlash list
 list_writes_none no_module start image = ((λ is. is), λ is. is)
 list_writes_none (listed m sequence spent state) start image = ((λ is. is), λ is. is)
 
+explain_writes_none : (at : ℕ) → WritesNoFlash (explain at)
+explain_writes_none at none_to_explain start image = ((λ is. is), λ is. is)
+explain_writes_none at (explained m sequence state refused lines) start image = ((λ is. is), λ is. is)
+
 pub returns-clause-ident : goal.returns-clause-ident
 returns-clause-ident c = ident_writes_none
 
@@ -38,3 +44,6 @@ returns-clause-rehearse c = rehearse_writes_none
 
 pub returns-clause-list : goal.returns-clause-list
 returns-clause-list c = list_writes_none
+
+pub returns-clause-explain : goal.returns-clause-explain
+returns-clause-explain c = explain_writes_none

@@ -1,7 +1,6 @@
-use Rattle.std.proofs.Common.{List, ℕ, ◌++◌, refl, sym, subst, ap, ◌∙◌}
+use Rattle.std.proofs.Common.{List, ℕ, ◌++◌, refl, subst, ap, ◌∙◌}
 use Rattle.key_state.specs.KeyBlock.{row_of}
 use Rattle.key_state.specs.Row.{spent_in}
-use Rattle.bank_layout.specs.Recovery.{standing_of}
 use Rattle.module_store.specs.Store.{manifest_of}
 use Rattle.report_text.specs.Lines.{lengths}
 use Rattle.report_text.specs.ListLines.{list_lines}
@@ -11,6 +10,7 @@ use Rattle.fwload_top.specs.List.{list}
 use Rattle.fwload_top.specs.List.Outcome.{listed}
 use Rattle.fwload_top.proofs.AnswersOnceLemmas.{quiet_touched, wrote_unchanged, poised, supplied_none, failed_run}
 use Rattle.fwload_top.proofs.AnswersOnceLemmas.{no_memory_run, line_run}
+use Rattle.fwload_top.proofs.StandingLemmas.{stands_at}
 use Rattle.fwload_top.proofs.list.list_store.Goals as goal
 
 pub returns-in_default : goal.returns-in_default
@@ -38,13 +38,11 @@ returns-in-Ok-put_list g c =
           (record {
             cells = λ told.
                 let holds = c.requires.holds told in record {
-                  standing = standing_of store.module (manifest_of store) start.cells;
-                  recovers = (store.running, manifest_of store, holds, refl);
-                  sequence_is = refl;
+                  stands = stands_at store start.cells holds
+                      (c.images_have_their_lengths.ensures.lengths start.cells store.module store.running
+                      (manifest_of store) holds);
                   spent_is = counts.count told
                       ∙ ap (λ (n : ℕ). spent_in (row_of n start.cells)) c.leaf_count.ensures.value;
-                  state_is = sym (c.images_have_their_lengths.ensures.lengths start.cells store.module store.running
-                      (manifest_of store) holds);
                 };
             blocks = c.requires.blocks;
             input = tt;

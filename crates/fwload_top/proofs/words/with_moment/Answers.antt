@@ -1,12 +1,12 @@
-use Rattle.std.proofs.Common.{codes, Some, ℕ, List, subst, sym, ◌∙◌}
-use Rattle.std.proofs.lemmas.Bool.{not-false}
+use Rattle.std.proofs.Common.{◌≡◌, codes, Some, ℕ, List, subst, sym, ◌∙◌}
+use Rattle.std.proofs.lemmas.Bool.{false≢true}
 use Rattle.std.proofs.lemmas.Option.{none-some}
 use Rattle.std.proofs.lemmas.Slice.Eq.{bytes_eq-Decides}
 use Rattle.der_core.specs.Moment.{IsMoment}
 use Rattle.der_core.specs.Reads.{Reads}
 use Rattle.der_core.specs.Time.{last_digits}
 use Rattle.der_core.proofs.Shapes.{Reads-none}
-use Rattle.fwload_top.proofs.MomentLemmas.{no_moment, one_moment}
+use Rattle.fwload_top.proofs.MomentLemmas.{no_moment, no_word, one_rehearsal, one_explanation}
 use Rattle.fwload_top.proofs.words.with_moment.Goals as goal
 
 pub returns-in_err-at : goal.returns-in_err-at
@@ -17,8 +17,28 @@ returns-in_err-at c named = (
       named names),
 )
 
-pub returns : goal.returns
-returns c = one_moment c.args.word.now c.args.digits.now c.in_ok-at.at
-    ((bytes_eq-Decides c.args.word.now (codes "rehearse")).0 (not-false _ (sym c.ne.ensures ∙ c.if-ne.false)))
-    (subst (λ (ds : List ℕ). Reads (last_digits 14) IsMoment ds (Some c.in_ok-at.at)) c.as_bytes.ensures.value
-    c.in_ok-at.ensures)
+-- the digits are this moment's
+moment_is : (text digits : List ℕ) (at : ℕ) → text ≡ digits → Reads (last_digits 14) IsMoment text (Some at)
+    → Reads (last_digits 14) IsMoment digits (Some at)
+moment_is text digits at is reads = subst (λ (ds : List ℕ). Reads (last_digits 14) IsMoment ds (Some at)) is reads
+
+pub returns-then-eq : goal.returns-then-eq
+returns-then-eq c = one_rehearsal c.args.word.now c.args.digits.now c.in_ok-at.at
+    ((bytes_eq-Decides c.args.word.now (codes "rehearse")).0 (sym c.eq.ensures ∙ c.if-eq.true))
+    (moment_is c.as_bytes.result.now c.args.digits.now c.in_ok-at.at c.as_bytes.ensures.value c.in_ok-at.ensures)
+
+pub returns-then-eq-2 : goal.returns-then-eq-2
+returns-then-eq-2 c = one_explanation c.args.word.now c.args.digits.now c.in_ok-at.at
+    ((bytes_eq-Decides c.args.word.now (codes "explain")).0 (sym c.eq-else-eq.ensures ∙ c.if-eq-2.true))
+    (moment_is c.as_bytes.result.now c.args.digits.now c.in_ok-at.at c.as_bytes.ensures.value c.in_ok-at.ensures)
+
+pub returns-else-eq-2 : goal.returns-else-eq-2
+returns-else-eq-2 c named = (
+  (λ e. absurd (none-some named e)),
+  λ names. absurd (no_word c.args.word.now c.args.digits.now
+      (λ is. false≢true (sym c.if-eq.false ∙ c.eq.ensures
+      ∙ (bytes_eq-Decides c.args.word.now (codes "rehearse")).1 is))
+      (λ is. false≢true (sym c.if-eq-2.false ∙ c.eq-else-eq.ensures
+      ∙ (bytes_eq-Decides c.args.word.now (codes "explain")).1 is))
+      named names),
+)
