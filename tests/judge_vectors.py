@@ -22,6 +22,7 @@ SHA_256 = der(0x30, oid("608648016503040201"))
 SHA_512 = der(0x30, oid("608648016503040203"))
 WRAPPED = b"\x04\x05hello"
 PERMITS = extension(bytes.fromhex("2b06010505070112"), der(0x30, der(0x30, FIRMWARE)))
+TOO_MANY = 1048577
 NONE_SIGNS = usage(b"\x02\x04")
 
 
@@ -89,6 +90,12 @@ def main():
     show("The same for the community, of type 1, which needs 1.2.3.9 in version 2.", "WITH_RULES",
          item(signer_info(rules, ROOT, b"R")))
     show("The same without an octet of an image.", "EMPTY", item(signer_info(empty, ROOT, b"R"), content=b""))
+    show("The attributes of the first, one after the other.", "ATTRIBUTES", b"".join(good))
+    show("They don't say which hardware they are for.", "NO_TARGETS", b"".join(attributes(target=None)))
+    encap = der(0x30, FIRMWARE, der(0xA0, der(0x04, WRAPPED)))
+    data = der(0x30, der(0x02, b"\x03"), der(0x31), encap, der(0x31, bytes(TOO_MANY)))
+    show("What stands before 1,048,577 octets of an item that fails condition 11 first.", "FRONT_11",
+         der(0x30, SIGNED, der(0xA0, data))[:-TOO_MANY])
     failing = [
         (3, der(0x30, SIGNED)),
         (4, item(info, outer=DATA)), (5, item(info, version=2)),

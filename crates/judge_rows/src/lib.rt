@@ -8,6 +8,8 @@
 #[cfg(test)]
 mod conditions;
 #[cfg(test)]
+mod installed;
+#[cfg(test)]
 mod row;
 #[cfg(test)]
 mod vectors;

@@ -3,13 +3,18 @@ ghost use Rattle.std.specs.Prelude.{◌≡◌, ℕ, List, IfOk, OnOk};
 ghost use Rattle.cms_signed.specs.Outline.{Sees};
 ghost use Rattle.module_record.specs.ModuleRecord.{HasLimits};
 
+use crate::vectors::MODULE;
+use attribute_set::read_attribute_set;
 use cms_signed::laws::frame_has_cut;
 use cms_signed::{Outline, outline_step};
 use config_table::State;
 use der_core::Moment;
-use judge_core::{Cut, CutVerdict, Verdict, judge, judge_cut};
+use judge_core::{
+    Cut, CutVerdict, Rehearsed, Verdict, judge, judge_cut, path_grant, rehearse_step,
+};
 use module_record::{Module, read_module};
 use package_attrs::image_of;
+use package_rules::HardwareModule;
 use sha2::{Digest, Sha256};
 use std::alloc::{AllocError, Global};
 use std::test::Fail;
@@ -46,10 +51,63 @@ fn cut_number_of(verdict: &CutVerdict<'_>) -> u8 {
 
 // The verdict of the module of a record, which is at this sequence number.
 pub(crate) fn judged(alloc: Global, record: &[u8], sequence: u64, item: &[u8]) -> Result<u8, Fail> {
+    judged_over(alloc, record, &State::new(alloc), sequence, item)
+}
+
+// The same where this is installed.
+pub(crate) fn judged_over(
+    alloc: Global,
+    record: &[u8],
+    state: &State,
+    sequence: u64,
+    item: &[u8],
+) -> Result<u8, Fail> {
     let at = Moment::new(AT).ok_or("a moment")?;
     let owner = module_of(alloc, record)?;
-    let verdict = judge(alloc, &owner, &State::new(alloc), sequence, at, item)?;
+    let verdict = judge(alloc, &owner, state, sequence, at, item)?;
     Ok(number_of(&verdict))
+}
+
+fn rehearsed_number_of(answer: &Rehearsed<'_>) -> u8 {
+    match answer {
+        Rehearsed::Accept(_) => 0,
+        Rehearsed::Refuse(condition) => condition.number(),
+    }
+}
+
+// The verdict of the rules alone on the attributes in a set.
+pub(crate) fn rehearsed(alloc: Global, record: &[u8], set: &[u8]) -> Result<u8, Fail> {
+    let owner = module_of(alloc, record)?;
+    let hardware = HardwareModule {
+        hw_type: &owner.hw_type,
+        serial: &owner.serial,
+        communities: owner.communities.as_slice(),
+        kinds: owner.kinds.as_slice(),
+    };
+    match read_attribute_set(alloc, set)? {
+        Some(attributes) => {
+            let answer = rehearse_step(&hardware, &State::new(alloc), &attributes);
+            Ok(rehearsed_number_of(&answer))
+        }
+        None => Err(Fail::from("attributes")),
+    }
+}
+
+// How many certificates the path of an item has, the place of its anchor, and how many members have
+// constraints.
+pub(crate) fn granted(alloc: Global, item: &[u8]) -> Result<Option<(usize, usize, usize)>, Fail> {
+    let owner = module_of(alloc, MODULE)?;
+    match path_grant(alloc, &owner, item)? {
+        Some(told) => Ok(Some((told.certificates, told.anchor, told.grant.member_count()))),
+        None => Ok(None),
+    }
+}
+
+// A front, and then so many zeros.
+pub(crate) fn with_zeros(alloc: Global, front: &[u8], count: usize) -> Result<Vec<u8>, AllocError> {
+    let mut octets = front.to_vec(alloc)?;
+    octets.extend_from_slice(&vec![in alloc; 0; count]?)?;
+    Ok(octets)
 }
 
 // Gives a piece to an outline.
