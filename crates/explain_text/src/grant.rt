@@ -45,7 +45,7 @@ fn push_kinds(alloc: Global, text: &mut String, attributes: Vec<Attr<'_>>) -> Re
     push_each_kind(alloc, text, &attributes, &kinds)
 }
 
-// A word, a space, a name and the end of the line.
+// A word with the space behind it, a name, and the end of the line.
 fn push_named(text: &mut String, word: &str, name: &str) -> Result<(), AllocError>
     ensures ok { OnOk result (string_bytes text.new
         ≡ string_bytes text.old ++ (word.now ++ (name.now ++ codes "\n"))) }

@@ -17,9 +17,12 @@
 //! place, and `report_text`, with the lines of identifiers and conditions.
 //!
 //! Content types, types of attributes and values are sorted, and looked up in what is sorted: for
-//! each content type the lines take n log n time in the sizes of the entries that decide for it.
-//! Values of firmwarePackageID and targetHardwareIDs alone are compared each with each. Memory is
-//! linear in the constraints, and in the lines. No clause says what a call costs.
+//! each content type the lines take a look-up in each member, and then n log n time in the sizes of
+//! the entries that decide for it. Values of firmwarePackageID and targetHardwareIDs alone are
+//! compared each with each. Memory is linear in the constraints and in the lines: some 90 octets for
+//! each entry, and, for one content type at a time, as much for each constrained attribute and 32
+//! for each listed value. The lines can be as many as the content types times the values of an entry
+//! for any content. No clause says what a call costs.
 #![tactic(auto)]
 
 mod grant;

@@ -36,6 +36,11 @@ const FEW: &[u8] =
     b"\x30\x1f\x30\x1d\x06\x0b\x2a\x86\x48\x86\xf7\x0d\x01\x09\x10\x01\x00\x30\x0e\x30\x0c\x06\
     \x02\x2a\x03\x31\x06\x02\x01\x04\x02\x01\x03";
 
+// Any content type, with the value 5.
+const FIVE: &[u8] =
+    b"\x30\x1c\x30\x1a\x06\x0b\x2a\x86\x48\x86\xf7\x0d\x01\x09\x10\x01\x00\x30\x0b\x30\x09\x06\
+    \x02\x2a\x03\x31\x03\x02\x01\x05";
+
 // Whether these are the lines of two members, behind an octet that stays.
 fn explains(alloc: Global, these: &[u8], those: &[u8], lines: &[u8]) -> Result<bool, Fail> {
     let these = read_ccc(alloc, these)?.ok_or("constraints")?;
@@ -102,6 +107,7 @@ fn lines_ascend(rt: HostRuntime) -> Result<(), Fail> {
         )?
     );
     assert!(rt; explains(alloc, FEW, ANY, b">allow other\nattr 1.2.3 020103 020104\n")?);
+    assert!(rt; explains(alloc, FEW, FIVE, b">allow other\nattr 1.2.3\n")?);
     Ok(())
 }
 
