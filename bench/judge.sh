@@ -7,7 +7,7 @@ cd "$(dirname "$0")/.."
 
 key="key H5 W4 $(printf '01%.0s' {1..32}) $(printf '01%.0s' {1..16})"
 read -r _ public _ < <(printf '%s\n' "$key" | "$program" "$room/key" key-new)
-printf 'hwtype 1.2.3\nserial 0001\ncapacity 4096\n%s\nanchor root a0 %s -\n' "$key" "$public" |
+printf 'hwtype 1.2.3\nserial 0001\ncapacity 4096\n%s\nanchor k0 a0 %s -\n' "$key" "$public" |
     "$program" "$room/module" make >"$room/made"
 
 # The line of the certificate of key identifier A and this digit, signed by the one of the digit before.
