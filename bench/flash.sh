@@ -58,7 +58,7 @@ fn done(alloc: Global, word: &str) -> Option<&'static str> {
         return if digest[0] == 0 { None } else { Some("hashed") };
     }
     let mut board = board(alloc)?;
-    if word == "install" {
+    if word == "install" && octets.len() <= 16_777_216 {
         install_image(alloc, &mut board, 1, 1, &octets).ok()?;
         return Some("streamed and installed");
     }
@@ -81,9 +81,9 @@ fn main(rt: HostRuntime) -> io::Result<()> {
     let alloc = rt.alloc();
     let mut answer = None;
     for word in env::args(&rt)?.skip(1) {
-        answer = if word == "open" {
+        answer = if word.as_str() == "open" {
             opened(alloc, 101)
-        } else if word == "open-once" {
+        } else if word.as_str() == "open-once" {
             opened(alloc, 1)
         } else {
             done(alloc, &word)
