@@ -1,6 +1,7 @@
 -- What a stream stands for: the octets that it was fed.
-use Rattle.std.specs.Prelude.{◌≡◌, ℕ, List, drop, length, Some, IsSome}
+use Rattle.std.specs.Prelude.{◌≡◌, ℕ, List, drop, length, Option, Some, IsSome, IfSome}
 use Rattle.edge_board.specs.Board.{View, Leaves}
+use Rattle.sha2.specs.declared.Sha256.{Sha256}
 use Rattle.sha2.specs.Hashers.{Holds256}
 use Rattle.sha2.specs.Sha256.{sha256}
 use Rattle.content_stream.specs.ImageBlocks.{blocks_for, IsStored, image_at}
@@ -21,10 +22,14 @@ plan_of stream = record {
 abbrev pub fed_of : ContentStream → ℕ
 fed_of stream = stream.fed
 
--- These octets were fed: both hashes have taken them in, and the blocks hold the image's.
+-- the hash of a content has taken these octets in, where one is kept
+abbrev pub HoldsContent : Option Sha256 → List ℕ → Type 0
+HoldsContent hash fed = IfSome hash (λ h. Holds256 h fed)
+
+-- These octets were fed: the hashes have taken them in, and the blocks hold the image's.
 pub record IsFed (told : Type 0) (stream : ContentStream) (fed cells : List ℕ) : Type 0 where
   pub count : length fed ≡ stream.fed
-  pub content : Holds256 stream.content fed
+  pub content : HoldsContent stream.content fed
   pub image : Holds256 stream.image (drop stream.wrap_size fed)
   pub stored : told → IsSome stream.blocks
       → IsStored stream.base (numbers_of (plan_of stream)) (drop stream.wrap_size fed) cells

@@ -1,8 +1,9 @@
 // A content on its way into the flash.
-ghost use Rattle.std.specs.Prelude.{◌≡◌, ◌≤◌, ◌-◌, true, [], is_some, unwrap_or, length};
+ghost use Rattle.std.specs.Prelude.{◌≡◌, ◌≤◌, ◌-◌, true, false, [], is_some, unwrap_or, length};
 ghost use Rattle.block_pool.specs.Numbers.{IsApart};
 ghost use Rattle.content_stream.specs.ImageBlocks.{blocks_for};
 
+use crate::hashing::content_hash;
 use crate::taking::take_blocks;
 use crate::wrap::wrap_size;
 use block_pool::{Blocks, Pool};
@@ -14,8 +15,9 @@ use std::alloc::{AllocError, Global};
 /// had enough. It keeps no octet. A stream that is dropped leaves its blocks live.
 #[derive(Drop)]
 pub struct ContentStream {
-    // hashes of the content's octets so far, and of the image's among them
-    pub(crate) content: Sha256,
+    // a hash of the content's octets so far, where something stands before the image, and one of the
+    // image's among them
+    pub(crate) content: Option<Sha256>,
     pub(crate) image: Sha256,
     // how many octets the content has, and how many of them stand before the image
     pub(crate) content_size: u32,
@@ -26,6 +28,7 @@ pub struct ContentStream {
     ghost few: { fed ≤ content_size },
     ghost wrap: { wrap_size ≤ content_size },
     ghost short: { wrap_size ≤ 6 },
+    ghost bare: { is_some content ≡ false → wrap_size ≡ 0 },
     ghost enough: { is_some blocks ≡ true
         → length (unwrap_or blocks []) ≡ blocks_for (content_size - wrap_size) },
     ghost apart: { IsApart (unwrap_or blocks []) },
@@ -68,7 +71,7 @@ impl ContentStream {
         let wrap_size = wrap_size(content_size, front);
         let blocks = take_blocks(pool, (content_size - wrap_size).div_ceil(BLOCK))?;
         Ok(ContentStream {
-            content: Sha256::new(),
+            content: content_hash(wrap_size),
             image: Sha256::new(),
             content_size,
             wrap_size,

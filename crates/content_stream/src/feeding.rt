@@ -9,6 +9,7 @@ ghost use Rattle.package_attrs.specs.Image.{IsImage};
 ghost use Rattle.content_stream.specs.Plans.{LiesBelow, InStream, blocks_begun};
 ghost use Rattle.content_stream.specs.Streams.{IsFed, IsStreamed, fed_of, plan_of};
 
+use crate::hashing::{digest_of, take_in};
 use crate::storing::store;
 use crate::{ContentStream, Streamed};
 use block_pool::Blocks;
@@ -41,7 +42,7 @@ pub fn feed<B: Board>(stream: &mut ContentStream, board: &mut B, piece: &[u8]) -
     let image = &piece[skipped..];
     let stored = stream.fed.saturating_sub(stream.wrap_size);
     store(board, stream.base, &stream.blocks, stored, image)?;
-    stream.content.update(piece);
+    take_in(&mut stream.content, piece);
     stream.image.update(image);
     stream.fed += piece.len() as u32;
     Ok(())
@@ -71,9 +72,10 @@ pub fn finish<B: Board>(stream: ContentStream, board: &mut B) -> Result<Streamed
         blocks,
         ..
     } = stream;
+    let image_digest = image.finalize();
     Ok(Streamed {
-        content_digest: content.finalize(),
-        image_digest: image.finalize(),
+        content_digest: digest_of(content, image_digest),
+        image_digest,
         length: content_size - wrap_size,
         blocks,
     })

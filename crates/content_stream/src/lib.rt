@@ -26,6 +26,7 @@
 
 mod content_stream;
 mod feeding;
+mod hashing;
 mod laws;
 mod storing;
 mod taking;

@@ -12,8 +12,8 @@ returns-clause-fed g c = λ fed is.
     let more = fed_image c.args.stream.now.wrap_size c.min-skipped.result fed c.args.piece.now skipped in
     record {
       count = omega (arith, is.count, length-append fed c.args.piece.now);
-      content = c.update.ensures fed is.content;
-      image = subst (λ (l : List ℕ). Holds256 c.update-2.new.self l) more (c.update-2.ensures _ is.image);
+      content = c.take_in.ensures.more fed is.content;
+      image = subst (λ (l : List ℕ). Holds256 c.update.new.self l) more (c.update.ensures _ is.image);
       stored = λ told some. subst
           (λ (l : List ℕ). IsStored c.args.stream.now.base (numbers_of (plan_of c.args.stream.now)) l (g.B.Board.view c.store.new.board).cells)
           more (c.in_ok-store.ensures.stored told some (drop c.args.stream.now.wrap_size fed)

@@ -17,8 +17,10 @@ returns-clause-streamed g c = λ content image fed skip imaged.
     sym (ap (λ (o : Option (List ℕ)). length (unwrap_or o [])) e)
     ∙ s.enough (ap (λ (o : Option (List ℕ)). is_some o) e) ∙ ap blocks_for (sym size) in
     record {
-      content_digest = c.finalize.ensures content fed.content;
-      image_digest = c.finalize-2.ensures (drop s.wrap_size content) fed.image ∙ ap sha256 (sym is);
+      content_digest = c.digest_of.ensures.whole content fed.content
+          (λ none. c.finalize-image_digest.ensures (drop s.wrap_size content) fed.image
+          ∙ ap (λ (n : ℕ). sha256 (drop n content)) (s.bare none));
+      image_digest = c.finalize-image_digest.ensures (drop s.wrap_size content) fed.image ∙ ap sha256 (sym is);
       size = sym size;
       enough = enough;
       reads = λ told numbers e left leaves.
