@@ -1,9 +1,9 @@
 #!/usr/bin/env python3
-"""Makes the items and modules that the tests of judge_rows hold, by the signer of lms_vectors.py.
+"""Makes the items and modules that the tests of verdict_rows hold, by the signer of lms_vectors.py.
 
 Everything is put together straight from RFC 5652, RFC 4108, RFC 5280, section 4, and X.690; no code is shared with the crates.
 
-    python3 tests/judge_vectors.py          prints crates/judge_rows/src/vectors.rt
+    python3 tests/judge_vectors.py          prints crates/verdict_rows/src/vectors.rt
 """
 
 from hashlib import sha256
