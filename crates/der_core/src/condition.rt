@@ -82,6 +82,14 @@ impl Condition {
         }
     }
 
+    /// The condition with a number that is known to be one, as where its rule is asked.
+    pub fn numbered(number: u8) -> Condition
+        requires range { IsCondition number }
+        ensures value { result ≡ number }
+    {
+        Condition { number }
+    }
+
     /// Its number, 1 to 41, which is the vendor's error code too.
     pub fn number(&self) -> u8
         ensures value { result ≡ self.now }

@@ -15,7 +15,6 @@ ghost use Rattle.der_core.specs.Objects.{oid_contents, AreSmall, IsOid};
 ghost use Rattle.der_core.specs.Reading.{subidentifiers_of, front_of, number_of, oid_of};
 ghost use Rattle.der_core.specs.Shapes.{IsOneElement};
 ghost use Rattle.der_core.specs.Time.{utc_text, IsUtc, generalized_text, time_tag, time_contents};
-ghost use Rattle.der_core.specs.Shapes.{IsOneElement};
 ghost use Rattle.der_core.specs.Time.{IsTime, time_text};
 ghost use Rattle.der_core.specs.TimeReading.{time_of};
 

@@ -4,7 +4,6 @@ ghost use Rattle.der_core.specs.Reads.{Reads, Answers};
 ghost use Rattle.der_core.specs.Time.{utc_text, IsUtc, generalized_text};
 ghost use Rattle.der_core.specs.TimeReading.{digit_of, decimal_after, zulu_of, with_century};
 ghost use Rattle.der_core.specs.TimeReading.{utc_of, generalized_of, time_of};
-ghost use Rattle.der_core.specs.TimeReading.{generalized_of, time_of};
 
 use crate::moment::Moment;
 use crate::tags;
