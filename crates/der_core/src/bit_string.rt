@@ -33,30 +33,3 @@ pub fn read_bits(contents: &[u8]) -> Option<(u8, &[u8])>
 {
     bits(contents)
 }
-
-#[cfg(test)]
-mod tests {
-    use super::*;
-
-    // X.690, section 8.6.4.2, spells 0A3B5F291CD as 04 0A 3B 5F 29 1C D0.
-    #[test]
-    fn bit_strings_are_read(rt: HostRuntime) {
-        for (contents, unused) in [
-            (b"\x04\x0a\x3b\x5f\x29\x1c\xd0".as_slice(), Some(4)),
-            (b"\x00\xff", Some(0)),
-            (b"\x07\x80", Some(7)),
-            (b"", None),
-            (b"\x01", None),
-            (b"\x07\xc0", None),
-            (b"\x08\x00", None),
-        ] {
-            match (read_bits(contents), unused) {
-                (Some((count, octets)), Some(unused)) => {
-                    assert_eq!(rt; count, unused, "{contents:?}");
-                    assert!(rt; octets == &contents[1..], "{contents:?}");
-                }
-                (found, unused) => assert!(rt; found.is_none() && unused.is_none(), "{contents:?}"),
-            }
-        }
-    }
-}

@@ -21,21 +21,3 @@ pub fn read_bool(contents: &[u8]) -> Option<bool>
 {
     boolean(contents)
 }
-
-#[cfg(test)]
-mod tests {
-    use super::*;
-
-    #[test]
-    fn truth_values_are_read(rt: HostRuntime) {
-        for (contents, value) in [
-            (b"\xff".as_slice(), Some(true)),
-            (b"\x00", Some(false)),
-            (b"\x01", None),
-            (b"", None),
-            (b"\xff\xff", None),
-        ] {
-            assert_eq!(rt; read_bool(contents), value, "{contents:?}");
-        }
-    }
-}

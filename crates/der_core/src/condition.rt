@@ -112,28 +112,3 @@ impl Condition {
         self.error().number()
     }
 }
-
-#[cfg(test)]
-mod tests {
-    use super::*;
-    use std::test::Fail;
-
-    // The codes by the numbers of RFC 4108, section 4.1.3, for each condition in turn.
-    const CODES: [u8; 41] = [
-        1, 33, 2, 2, 3, 4, 22, 24, 4, 9, 3, 5, 3, 6, 8, 7, 12, 13, 7, 16, 15, 10, 5, 5, 5, 14, 5,
-        11, 15, 27, 29, 30, 28, 31, 32, 36, 34, 33, 99, 99, 99,
-    ];
-
-    #[test]
-    fn conditions_have_their_codes(rt: HostRuntime) -> Result<(), Fail> {
-        for number in 1..=41 {
-            let condition = Condition::new(number).ok_or("1 to 41")?;
-            assert_eq!(rt; condition.number(), number);
-            let code = CODES[usize::from(number) - 1];
-            assert_eq!(rt; condition.code(), code, "of {number}");
-        }
-        assert_eq!(rt; Condition::new(0), None);
-        assert_eq!(rt; Condition::new(42), None);
-        Ok(())
-    }
-}

@@ -46,21 +46,3 @@ fn head(bytes: &[u8]) -> Result<(u8, u32, &[u8]), DerFault>
     let (size, rest) = split_length(rest)?;
     Ok((*tag, size, rest))
 }
-
-#[cfg(test)]
-mod tests {
-    use super::*;
-    use std::test::Fail;
-
-    // The head of a SEQUENCE of 2^24 octets that aren't there, and octets that can't begin one.
-    #[test]
-    fn reads_a_head_without_its_contents(rt: HostRuntime) -> Result<(), Fail> {
-        let octets = [0x30, 0x84, 0x01, 0x00, 0x00, 0x00, 0x06];
-        let (tag, size, rest) = read_head(&octets).map_err(|_| "a head")?;
-        assert_eq!(rt; (tag, size, rest), (0x30, 0x0100_0000, &octets[6..]));
-        assert_eq!(rt; read_head(&octets[..5]), Err(DerFault::Short));
-        assert_eq!(rt; read_head(&[0x30, 0x83, 0x00]), Err(DerFault::Malformed));
-        assert_eq!(rt; read_length(&[0x81, 0x80]), Ok((128, &octets[7..])));
-        Ok(())
-    }
-}

@@ -24,25 +24,3 @@ pub fn read_int_octets(contents: &[u8]) -> Option<&[u8]>
 {
     integer(contents)
 }
-
-#[cfg(test)]
-mod tests {
-    use super::*;
-
-    // Zero, the ends of one and of two octets on either side of it, and spellings too long.
-    #[test]
-    fn integers_are_read(rt: HostRuntime) {
-        for (contents, good) in [
-            (b"\x00".as_slice(), true),
-            (b"\x00\x80", true),
-            (b"\xff\x7f", true),
-            (b"\x80\x00", true),
-            (b"\x00\x7f", false),
-            (b"\xff\x80", false),
-            (b"", false),
-        ] {
-            let octets = if good { Some(contents) } else { None };
-            assert!(rt; read_int_octets(contents) == octets, "{contents:?}");
-        }
-    }
-}

@@ -95,3 +95,6 @@ pub use splitter::{Splitter, Step, declared, split_step};
 pub use time::read_time;
 pub use time_value::{Time, TimeForm};
 pub use tlv::{Tlv, read_tlv};
+
+#[cfg(test)]
+mod tests;

@@ -66,18 +66,3 @@ fn is_moment(digits: u64) -> bool
         && (0 < day && day < 32)
         && (hour < 24 && (minute < 60 && second < 60))
 }
-
-#[cfg(test)]
-mod tests {
-    use super::*;
-    use std::test::Fail;
-
-    #[test]
-    fn moments_are_in_the_order_of_time(rt: HostRuntime) -> Result<(), Fail> {
-        let before = Moment::new(19_991_231_235_959).ok_or("valid")?;
-        let after = Moment::new(20_000_101_000_000).ok_or("valid")?;
-        assert!(rt; before < after && before != after);
-        assert_eq!(rt; Moment::new(100_000_101_000_000), None);
-        Ok(())
-    }
-}

@@ -51,31 +51,3 @@ fn number_from_octets(octets: &[u8]) -> u128
     }
     number
 }
-
-#[cfg(test)]
-mod tests {
-    use super::*;
-
-    // Contents of INTEGERs by X.690, section 8.3, at both sides of each border.
-    #[test]
-    fn reads_numbers_in_their_fewest_octets(rt: HostRuntime) {
-        let nothing: [u8; 0] = [];
-        let mut greatest = [0xff; 17];
-        greatest[0] = 0x00;
-        let mut too_great = [0x00; 17];
-        too_great[0] = 0x01;
-        let rows = [
-            ([0x00].as_slice(), Some(0)),
-            ([0x7f].as_slice(), Some(127)),
-            ([0x00, 0x80].as_slice(), Some(128)),
-            (greatest.as_slice(), Some(u128::MAX)),
-            (nothing.as_slice(), None),
-            ([0x00, 0x7f].as_slice(), None),
-            ([0x80].as_slice(), None),
-            (too_great.as_slice(), None),
-        ];
-        for (row, (contents, answer)) in rows.into_iter().enumerate() {
-            assert_eq!(rt; read_u128(contents), answer, "at row {row}");
-        }
-    }
-}

@@ -93,37 +93,3 @@ fn padded(octets: &[u8]) -> [u8; 64]
     bytes[..octets.len()].copy_from_slice(octets);
     bytes
 }
-
-#[cfg(test)]
-mod tests {
-    use super::*;
-
-    // Both sides of each border, and octets that differ from their filling by nothing but length.
-    #[test]
-    fn keeps_at_most_64_octets(rt: HostRuntime) {
-        let octets = [0x00; 65];
-        for (size, any, some) in [
-            (0, true, false),
-            (1, true, true),
-            (64, true, true),
-            (65, false, false),
-        ] {
-            let given = &octets[..size];
-            let kept = Octets64::new(given);
-            assert_eq!(rt; kept.is_some(), any, "of {size}");
-            assert_eq!(rt;
-                Octets64::some(given).is_some(),
-                some,
-                "of {size} and not none"
-            );
-            if let Some(kept) = kept {
-                assert_eq!(rt; kept.octets(), given, "of {size}");
-                assert_eq!(rt;
-                    Octets64::new(&octets[..1]) == Some(kept),
-                    size == 1,
-                    "of {size}"
-                );
-            }
-        }
-    }
-}

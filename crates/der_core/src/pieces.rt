@@ -52,29 +52,3 @@ fn take_piece(
     }
     Ok(())
 }
-
-#[cfg(test)]
-mod tests {
-    use super::*;
-    use std::test::Fail;
-
-    // Two SEQUENCEs and one octet (X.690, section 8.9), cut at each two places.
-    #[test]
-    fn splits_alike_however_it_is_cut(rt: HostRuntime) -> Result<(), Fail> {
-        let stream = [0x30, 0x03, 0x01, 0x02, 0x03, 0x30, 0x00, 0xff];
-        for first in 0..=8 {
-            for second in first..=8 {
-                let pieces = [&stream[..first], &stream[first..second], &stream[second..]];
-                let items = split_pieces(rt.alloc(), &pieces)?;
-                assert_eq!(rt; items.len(), 3, "at {first} and {second}");
-                for (item, octets) in items
-                    .iter()
-                    .zip([&stream[..5], &stream[5..7], &stream[7..]])
-                {
-                    assert!(rt; item.as_slice() == octets, "at {first} and {second}");
-                }
-            }
-        }
-        Ok(())
-    }
-}

@@ -101,31 +101,3 @@ pub fn read_time(tag: u8, contents: &[u8]) -> Option<Moment>
 {
     read_form(tag, contents)
 }
-
-#[cfg(test)]
-mod tests {
-    use super::*;
-
-    // Each form with the years that it can spell, and the borders of each part.
-    #[test]
-    fn times_are_read(rt: HostRuntime) {
-        for (tag, contents, digits) in [
-            (0x17, b"500101000000Z".as_slice(), Some(19_500_101_000_000)),
-            (0x17, b"491231235959Z", Some(20_491_231_235_959)),
-            (0x17, b"500001000000Z", None),
-            (0x17, b"500101000000+0000", None),
-            (0x18, b"20250101000000Z", Some(20_250_101_000_000)),
-            (0x18, b"00000101000000Z", Some(101_000_000)),
-            (0x18, b"99991231235959Z", Some(99_991_231_235_959)),
-            (0x18, b"20251301000000Z", None),
-            (0x18, b"20251232000000Z", None),
-            (0x18, b"20251201240000Z", None),
-            (0x18, b"20251201000000z", None),
-            (0x18, b"20251201000000.5Z", None),
-            (0x16, b"20250101000000Z", None),
-        ] {
-            let moment = read_time(tag, contents).map(|moment| moment.digits());
-            assert_eq!(rt; moment, digits, "{tag} {contents:?}");
-        }
-    }
-}

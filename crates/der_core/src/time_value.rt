@@ -56,23 +56,3 @@ fn form(tag: u8) -> Option<TimeForm>
         _ => None,
     }
 }
-
-#[cfg(test)]
-mod tests {
-    use super::*;
-    use std::test::Fail;
-
-    // The same moment in either form (RFC 5280, section 4.1.2.5), and a tag that no time has.
-    #[test]
-    fn times_keep_their_form(rt: HostRuntime) -> Result<(), Fail> {
-        let moment = Moment::new(20_251_201_000_000).ok_or("a moment")?;
-        let utc = Time::read(0x17, b"251201000000Z");
-        let form = TimeForm::Utc;
-        assert_eq!(rt; utc, Some(Time { form, moment }));
-        let generalized = Time::read(0x18, b"20251201000000Z");
-        let form = TimeForm::Generalized;
-        assert_eq!(rt; generalized, Some(Time { form, moment }));
-        assert_eq!(rt; Time::read(0x16, b"251201000000Z"), None);
-        Ok(())
-    }
-}

@@ -68,33 +68,3 @@ fn split(bytes: &[u8]) -> Result<(u8, &[u8], &[u8]), DerFault>
     let (contents, rest) = rest.split_at(size);
     Ok((*tag, contents, rest))
 }
-
-#[cfg(test)]
-mod tests {
-    use super::*;
-
-    // The length octets of X.690, section 8.1.3, at both sides of each border.
-    #[test]
-    fn reads_the_element_at_the_front(rt: HostRuntime) {
-        let nothing: [u8; 0] = [];
-        let short = Err(DerFault::Short);
-        let malformed = Err(DerFault::Malformed);
-        let null = Tlv {
-            tag: 0x05,
-            head: 2,
-            end: 2,
-        };
-        let rows = [
-            (nothing.as_slice(), short),
-            ([0x30, 0x81, 0x80].as_slice(), short),
-            ([0x30, 0x03, 0x00].as_slice(), short),
-            ([0x30, 0x81, 0x05].as_slice(), malformed),
-            ([0x30, 0x80].as_slice(), malformed),
-            ([0x1f].as_slice(), malformed),
-            ([0x05, 0x00, 0xff].as_slice(), Ok(null)),
-        ];
-        for (row, (octets, answer)) in rows.into_iter().enumerate() {
-            assert_eq!(rt; read_tlv(octets), answer, "at row {row}");
-        }
-    }
-}
