@@ -1,6 +1,7 @@
 ghost use Rattle.std.specs.Prelude.{◌≡◌, IsTrue, IfSome, option_map};
 ghost use Rattle.der_core.specs.Attribute.{value_text, IsValue};
 ghost use Rattle.der_core.specs.AttributeReading.{are_elements, one_element_of};
+ghost use Rattle.der_core.specs.Element.{AreOctets};
 ghost use Rattle.der_core.specs.Reads.{Reads, Answers};
 
 use crate::cursor::Cursor;
@@ -24,22 +25,14 @@ impl<'a> Attr<'a> {
         ensures exact { Answers (λ value. (value.0, value.1.now)) result
             (one_element_of self.now.values.now) }
     {
-        one_element(self.values)
+        only_element(self.values)
     }
 }
 
 // The tag, the contents and the whole of the element that octets are.
-fn one_element(octets: &[u8]) -> Option<(u8, &[u8], &[u8])>
-    ensures spelled { Reads value_text IsValue octets.now
-        (option_map (λ value. (value.0, value.1.now)) result) }
-    ensures whole { IfSome result (λ value. value.2.now ≡ octets.now) }
-    ensures exact { Answers (λ value. (value.0, value.1.now)) result (one_element_of octets.now) }
-{
-    only_element(octets)
-}
-
 #[tactic(auto, unfolding(crate::specs::AttributeReading::one_element_of))]
 fn only_element(octets: &[u8]) -> Option<(u8, &[u8], &[u8])>
+    ensures octets { AreOctets octets.now }
     ensures whole { IfSome result (λ value. value.2.now ≡ octets.now) }
     ensures exact { Answers (λ value. (value.0, value.1.now)) result (one_element_of octets.now) }
 {
