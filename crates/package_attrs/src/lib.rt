@@ -4,6 +4,7 @@
 //! - `read_identifier`, `read_targets`, `read_communities` and `read_info` answer exactly where the
 //!   octets, all of them, are the text of an identifier, of hardware types, of communities, or of a
 //!   package's type and dependencies, and their value is the one that the octets spell (`spelled`).
+//!   `read_name` does so for the name at the front of octets, whatever follows (`spelled`).
 //! - `Targets`, `Communities`, `SerialEntries` and `Dependencies` stay in place as the octets that
 //!   were read, and are seen as the lists that these spell. Each is an iterator that reads the next
 //!   value when it is asked for (`next_gives`: `YieldsFirst`), so going through one takes time
@@ -69,7 +70,7 @@ pub use laws::{
     one_description, one_image, one_text_each, one_text_of_communities, one_text_of_info,
     one_text_of_targets,
 };
-pub use name::{PackageName, Stale};
+pub use name::{PackageName, Stale, read_name};
 pub use names::Names;
 pub use package::{Info, Package};
 pub use read_community::read_communities;

@@ -1,6 +1,10 @@
 // Names of packages, and what makes packages of a name stale.
+ghost use Rattle.std.specs.Prelude.{◌++◌, ℕ, List, option_map};
+ghost use Rattle.der_core.specs.Element.{AreOctets};
+ghost use Rattle.der_core.specs.Reads.{Reads, Answers};
+ghost use Rattle.package_attrs.specs.declared.name.PackageName.{PackageName};
+ghost use Rattle.package_attrs.specs.Identifier.{name_text, IsName};
 ghost use Rattle.package_attrs.specs.Reading.{pair_of, octets_at, name_at, stale_at};
-ghost use Rattle.der_core.specs.Reads.{Answers};
 
 use der_core::{Cursor, Octets64, Oid, read_oid, read_u128, tags};
 
@@ -45,9 +49,8 @@ pub(crate) fn read_octets(fields: &mut Cursor<'_>) -> Option<Octets64>
     Octets64::some(fields.tagged(tags::OCTET_STRING)?)
 }
 
-// The name at the front.
 #[tactic(auto, unfolding(crate::specs::Reading::name_at, crate::specs::Reading::octets_at))]
-pub(crate) fn read_name(fields: &mut Cursor<'_>) -> Option<PackageName>
+fn read_front(fields: &mut Cursor<'_>) -> Option<PackageName>
     ensures exact { Answers (λ name. (name, fields.new)) result (name_at fields.old) }
 {
     if fields.is_at(tags::SEQUENCE) {
@@ -56,6 +59,17 @@ pub(crate) fn read_name(fields: &mut Cursor<'_>) -> Option<PackageName>
     } else {
         Some(PackageName::Legacy(read_octets(fields)?))
     }
+}
+
+/// Passes the name at the front (RFC 4108, section 2.2.3). None exactly where the text of no name
+/// stands there, and then no clause says how far the cursor has come.
+pub fn read_name(fields: &mut Cursor<'_>) -> Option<PackageName>
+    ensures spelled { AreOctets fields.old
+        → Reads {V = PackageName × List ℕ} (λ x. name_text x.0 ++ x.1) (λ x. IsName x.0)
+        fields.old (option_map (λ name. (name, fields.new)) result) }
+    ensures exact { Answers (λ name. (name, fields.new)) result (name_at fields.old) }
+{
+    read_front(fields)
 }
 
 // The stale value at the front.

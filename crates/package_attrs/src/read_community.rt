@@ -11,9 +11,6 @@ use crate::targets::read_oid_at;
 use crate::{Communities, Community, SerialEntries, SerialEntry};
 use der_core::{Cursor, Octets64, Oid, read_oid, tags};
 
-// The tag of NULL, with which an entry names all modules (X.690, section 8.8).
-const NULL: u8 = 0x05;
-
 // The two ends of a block of serial numbers.
 #[tactic(auto, unfolding(crate::specs::SerialReading::block_of))]
 fn read_block(ends: &[u8]) -> Option<(Octets64, Octets64)>
@@ -29,13 +26,13 @@ fn read_block(ends: &[u8]) -> Option<(Octets64, Octets64)>
     }
 }
 
-// The serial entry at the front.
+// The serial entry at the front: a NULL names all modules.
 #[tactic(auto, unfolding(crate::specs::SerialReading::serial_entry_at))]
 pub(crate) fn read_serial_entry(items: &mut Cursor<'_>) -> Option<SerialEntry>
     ensures exact { Answers (λ entry. (entry, items.new)) result (serial_entry_at items.old) }
 {
-    if items.is_at(NULL) {
-        if items.tagged(NULL)?.is_empty() {
+    if items.is_at(tags::NULL) {
+        if items.tagged(tags::NULL)?.is_empty() {
             Some(SerialEntry::All)
         } else {
             None
