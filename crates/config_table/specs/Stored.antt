@@ -6,12 +6,16 @@ use Rattle.package_attrs.specs.declared.name.PackageName.{PackageName}
 use Rattle.config_table.specs.declared.installed.Installed.{Installed}
 use Rattle.config_table.specs.declared.key.Key.{Key}
 use Rattle.config_table.specs.Names.{is_same}
-use Rattle.config_table.specs.State.{Entry}
+use Rattle.config_table.specs.State.{Entry, State, state_with}
 
 -- where an image is kept: its length in octets, and its blocks in their order
 pub record Stored : Type 0 where
   pub length : ℕ
   pub blocks : List ℕ
+
+-- the same packages, with the lengths of their images alone
+abbrev pub lengths : State Stored → State ℕ
+lengths state = state_with (λ image. image.length) state
 
 -- what an installed package says
 abbrev pub entry_of : Installed → Entry Stored

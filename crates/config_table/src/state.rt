@@ -238,132 +238,100 @@ fn raised_entry(old: Option<&StaleEntry>, made: StaleEntry) -> StaleEntry
 #[cfg(test)]
 mod tests {
     use super::*;
-    use crate::BlockNumbers;
-    use der_core::{Octets64, read_oid};
+    use der_core::{Oid, read_oid};
     use package_attrs::{Identifier, Names, read_info, read_targets};
-    use std::test::Fail;
-
-    // 1.2.3 and the octet in this version, or the legacy name of that octet.
-    fn name(octet: u8, version: Option<u128>) -> Option<PackageName> {
-        match version {
-            Some(version) => {
-                let id = read_oid(&[0x2a, 3, octet])?;
-                Some(PackageName::Preferred { id, version })
-            }
-            None => Some(PackageName::Legacy(Octets64::new(&[octet])?)),
-        }
-    }
-
-    fn install(
-        alloc: Global,
-        state: &mut State,
-        name: Option<PackageName>,
-        length: u32,
-    ) -> Result<(), Fail> {
-        let installed = Installed {
-            name: name.ok_or("a bad name")?,
-            digest: [7; 32],
-            length,
-            blocks: BlockNumbers::new(Vec::new(alloc)),
-            kind: None,
-            needs: Names::new(Vec::new(alloc)),
-        };
-        state.replace(installed)?;
-        Ok(())
-    }
-
-    fn lengths(state: &State) -> [Option<u32>; 4] {
-        let length = |place: usize| state.package(place).map(|installed| installed.length);
-        [length(0), length(1), length(2), length(3)]
-    }
-
-    // The identifier 2 comes twice and keeps its place, and so does the legacy name 2.
-    #[test]
-    fn keeps_places(rt: HostRuntime) -> Result<(), Fail> {
-        let mut state = State::new(rt.alloc());
-        install(rt.alloc(), &mut state, name(2, Some(4)), 1)?;
-        install(rt.alloc(), &mut state, name(3, Some(1)), 2)?;
-        install(rt.alloc(), &mut state, name(2, None), 3)?;
-        install(rt.alloc(), &mut state, name(2, Some(5)), 4)?;
-        install(rt.alloc(), &mut state, name(2, None), 5)?;
-        assert_eq!(rt; lengths(&state.copy()?), [Some(4), Some(2), Some(5), None]);
-        assert_eq!(rt; state.packages(), 3);
-        Ok(())
-    }
-
-    fn raise(state: &mut State, octet: u8, number: Option<u128>) -> Result<(), Fail> {
-        match name(octet, number).ok_or("a bad name")? {
-            PackageName::Preferred { id, version } => {
-                let name = PackageName::Preferred { id, version: 0 };
-                state.raise_stale(&name, &Stale::Upto(version))?;
-            }
-            PackageName::Legacy(octets) => {
-                state.raise_stale(&PackageName::Legacy(octets), &Stale::Legacy(octets))?;
-            }
-        }
-        Ok(())
-    }
-
-    // The number of a name, and whether the name is stale.
-    fn standing(state: &State, name: Option<PackageName>) -> Option<(u128, bool)> {
-        let name = name?;
-        Some((state.stale_of(&name)?, state.stale_hit(&name)))
-    }
-
-    // A smaller number lowers nothing, and a legacy name has none.
-    #[test]
-    fn raises_stale_numbers(rt: HostRuntime) -> Result<(), Fail> {
-        let mut state = State::new(rt.alloc());
-        raise(&mut state, 1, Some(9))?;
-        raise(&mut state, 5, None)?;
-        raise(&mut state, 1, Some(3))?;
-        assert_eq!(rt; standing(&state, name(1, Some(9))), Some((9, true)));
-        assert_eq!(rt; standing(&state, name(1, Some(10))), Some((9, false)));
-        assert_eq!(rt; standing(&state, name(5, None)), Some((0, true)));
-        assert_eq!(rt; standing(&state, name(1, None)), None);
-        assert_eq!(rt; state.stale_entries(), 2);
-        assert!(rt;
-            matches!(
-                &state.stale_entry(0),
-                Some(StaleEntry::Preferred { upto: 9, .. })
-            )
-        );
-        Ok(())
-    }
 
     // 1.2.3.6 in version 2, which makes version 1 stale, has type 9 and needs 1.2.3.4.
     fn offered() -> Option<Package<'static>> {
-        let id = read_oid(&[0x2a, 3, 6])?;
+        let id = read_oid(b"\x2a\x03\x06")?;
         let identifier = Identifier {
             name: PackageName::Preferred { id, version: 2 },
             stale: Some(Stale::Upto(1)),
         };
+        let info = b"\x30\x0f\x02\x01\x09\x30\x0a\x30\x08\x06\x03\x2a\x03\x04\x02\x01\x01";
         Some(Package {
             content: id,
             digest: [0; 32],
             identifier,
             targets: read_targets(b"\x30\x00")?,
             communities: None,
-            info: read_info(
-                b"\x30\x0f\x02\x01\x09\x30\x0a\x30\x08\x06\x03\x2a\x03\x04\x02\x01\x01",
-            )?,
+            info: read_info(info)?,
         })
     }
 
-    // Memory is left, so the package is taken.
+    // The package's length and type, how many blocks and needs it has, and its stale number.
+    type Told = (u32, Option<u128>, usize, usize, u128);
+
+    fn told(state: &State) -> Option<Told> {
+        let one = state.package(0)?;
+        let (blocks, needs) = (one.blocks.as_slice().len(), one.needs.as_slice().len());
+        Some((
+            one.length,
+            one.kind,
+            blocks,
+            needs,
+            state.stale_of(&one.name)?,
+        ))
+    }
+
+    fn told_by_a_copy(state: &State) -> Option<Told> {
+        match state.copy() {
+            Ok(copy) => told(&copy),
+            Err(_) => None,
+        }
+    }
+
+    fn told_of(alloc: Global) -> Option<Told> {
+        let offered = offered()?;
+        let Ok(blocks) = vec![in alloc; 3] else {
+            return None;
+        };
+        let blocks = BlockNumbers::new(blocks);
+        match State::new(alloc).with_package(&offered, [1; 32], 5, blocks) {
+            Ok(state) => told_by_a_copy(&state),
+            Err(_) => None,
+        }
+    }
+
+    // Memory is left, so the package is taken, and the state can be copied.
     #[test]
-    fn takes_an_accepted_package(rt: HostRuntime) -> Result<(), Fail> {
-        let mut state = State::new(rt.alloc());
-        install(rt.alloc(), &mut state, name(6, Some(1)), 1)?;
-        let blocks = BlockNumbers::new(vec![in rt.alloc(); 3]?);
-        let offered = offered().ok_or("a bad package")?;
-        let state = state.with_package(&offered, [1; 32], 5, blocks)?;
-        assert_eq!(rt; state.packages(), 1);
-        let installed = state.package(0).ok_or("none is installed")?;
-        assert_eq!(rt; (installed.length, installed.kind), (5, Some(9)));
-        assert_eq!(rt; installed.blocks.as_slice(), [3].as_slice());
-        assert_eq!(rt; installed.needs.as_slice().len(), 1);
-        assert_eq!(rt; standing(&state, name(6, Some(1))), Some((1, true)));
-        Ok(())
+    fn takes_an_accepted_package(rt: HostRuntime) {
+        assert!(rt; told_of(rt.alloc()) == Some((5, Some(9), 1, 1, 1)));
+    }
+
+    // 1.2.3.6 in version 3, in no blocks.
+    fn installed(alloc: Global, id: Oid) -> Installed {
+        Installed {
+            name: PackageName::Preferred { id, version: 3 },
+            digest: [7; 32],
+            length: 0,
+            blocks: BlockNumbers::new(Vec::new(alloc)),
+            kind: None,
+            needs: Names::new(Vec::new(alloc)),
+        }
+    }
+
+    // It is stale up to 9, and then a smaller number changes nothing.
+    fn is_raised(state: &mut State, id: Oid) -> bool {
+        let name = PackageName::Preferred { id, version: 3 };
+        state.raise_stale(&name, &Stale::Upto(9)).is_ok()
+            && state
+                .take_stale(StaleEntry::Preferred { id, upto: 4 })
+                .is_ok()
+    }
+
+    fn told_once_raised(alloc: Global) -> Option<Told> {
+        let id = read_oid(b"\x2a\x03\x06")?;
+        let mut state = State::new(alloc);
+        if state.replace(installed(alloc, id)).is_ok() && is_raised(&mut state, id) {
+            told(&state)
+        } else {
+            None
+        }
+    }
+
+    #[test]
+    fn takes_a_package_and_stale_entries(rt: HostRuntime) {
+        assert!(rt; told_once_raised(rt.alloc()) == Some((0, None, 0, 0, 9)));
     }
 }
