@@ -3,7 +3,6 @@
 use crate::*;
 use der_core::Octets64;
 use std::alloc::Global;
-use std::test::Fail;
 
 // OpenSSL 3.0.19: `openssl req -x509 -newkey ed25519 -nodes -config c.cnf -days 10000 -set_serial 7`,
 // where c.cnf has CN=a and these extensions: subjectKeyIdentifier=hash,
@@ -40,52 +39,74 @@ const CONSTRAINTS: &[u8] =
     \x2a\x03\x02\x01\x07\x30\x10\x06\x0b\x2a\x86\x48\x86\xf7\x0d\x01\x09\x10\x01\x00\x0a\
     \x01\x01";
 
-#[test]
-fn reads_extensions_of_another_implementation(rt: HostRuntime) -> Result<(), Fail> {
-    let alloc = rt.alloc();
-    let Some(cert) = read_cert(ED25519) else {
-        return Err(Fail::from("no certificate"));
-    };
-    let Some(extensions) = read_extensions(alloc, &cert)? else {
-        return Err(Fail::from("no extensions"));
-    };
-    let key = Octets64::new(&ED25519[146..166]);
-    assert!(rt; extensions.subject_key == key);
-    assert!(rt; extensions.authority_key == key);
-    // digitalSignature, keyCertSign and cRLSign
-    assert_eq!(rt; extensions.usage, Some(0b110_0001));
-    let Some(rule) = extensions.ca else {
-        return Err(Fail::from("no basic constraints"));
-    };
-    assert!(rt; rule.ca);
-    assert_eq!(rt; rule.path_len, Some(3));
-    let Some(constraints) = extensions.constraints else {
-        return Err(Fail::from("no content constraints"));
-    };
-    let mut entries = constraints.entries();
-    let Some(entry) = entries.next() else {
-        return Err(Fail::from("no entry"));
-    };
-    assert!(rt; entry.can_source);
-    assert!(rt; entry.content.octets() == &ED25519[314..325]);
+// The key identifier, the SHA-1 of the key, and the listed identifier.
+const KEY: &[u8] =
+    b"\xe6\x8a\xc3\xa2\xbc\x73\x69\xc8\x61\xca\xc4\x45\xf6\x47\x6a\xe0\x4b\xc3\x7c\xca";
+
+const FIRMWARE_PACKAGE: &[u8] = b"\x2a\x86\x48\x86\xf7\x0d\x01\x09\x10\x01\x10";
+
+const LISTED: &[u8] = b"\x30\x09\x30\x07\x06\x02\x2a\x03\x02\x01\x07";
+
+fn is_rule(rule: Option<CaRule>) -> bool {
+    match rule {
+        Some(rule) => rule.ca && rule.path_len == Some(3),
+        None => false,
+    }
+}
+
+// Whether an entry is for packages that may be signed first, with one listed value.
+fn is_for_packages(entry: &CccEntry<'_>) -> bool {
     let mut attributes = entry.attributes.iter();
-    let Some(attribute) = attributes.next() else {
-        return Err(Fail::from("no attribute"));
+    match attributes.next() {
+        Some(one) => one.values == LISTED && attributes.next().is_none() && entry.can_source,
+        None => false,
+    }
+}
+
+fn are_those(constraints: &Ccc<'_>) -> bool {
+    let mut entries = constraints.entries();
+    let (Some(first), Some(other)) = (entries.next(), entries.next()) else {
+        return false;
     };
-    assert!(rt; attribute.values == &ED25519[344..355]);
-    assert!(rt; attributes.next().is_none());
-    let Some(other) = entries.next() else {
-        return Err(Fail::from("no other entry"));
+    is_for_packages(&first)
+        && first.content.octets() == FIRMWARE_PACKAGE
+        && !other.can_source
+        && other.attributes.rest().is_empty()
+        && entries.next().is_none()
+}
+
+// digitalSignature, keyCertSign and cRLSign are bits 0, 5 and 6.
+fn say_all(extensions: &Extensions<'_>) -> bool {
+    let key = Octets64::new(KEY);
+    let Some(constraints) = &extensions.constraints else {
+        return false;
     };
-    assert!(rt; !other.can_source);
-    assert!(rt; other.attributes.iter().next().is_none());
-    assert!(rt; entries.next().is_none());
-    Ok(())
+    extensions.subject_key == key
+        && extensions.authority_key == key
+        && extensions.usage == Some(0b110_0001)
+        && is_rule(extensions.ca)
+        && are_those(&constraints.again())
+}
+
+fn is_read_whole(alloc: Global) -> bool {
+    let Some(cert) = KeptCert::new(ED25519) else {
+        return false;
+    };
+    match cert.extensions(alloc) {
+        Ok(Some(extensions)) => say_all(&extensions),
+        Ok(None) => false,
+        Err(_) => false,
+    }
+}
+
+#[test]
+fn reads_extensions_of_another_implementation(rt: HostRuntime) {
+    assert!(rt; is_read_whole(rt.alloc()));
 }
 
 // The certificate with these octets in place of its own extensions.
-fn with_extensions<'a>(certificate: &'a [u8], octets: &'a [u8]) -> Option<Cert<'a>> {
-    let Some(cert) = read_cert(certificate) else {
+fn with_extensions(octets: &[u8]) -> Option<Cert<'_>> {
+    let Some(cert) = read_cert(ED25519) else {
         return None;
     };
     let signed = TbsCert {
@@ -95,144 +116,95 @@ fn with_extensions<'a>(certificate: &'a [u8], octets: &'a [u8]) -> Option<Cert<'
     Some(Cert { signed, ..cert })
 }
 
-// What the certificate says so: whether the extensions read, and the key usage.
-fn usage_with(alloc: Global, octets: &[u8]) -> Result<(bool, Option<u16>), Fail> {
-    let Some(cert) = with_extensions(ED25519, octets) else {
-        return Err(Fail::from("no certificate"));
+// Whether extensions of these octets, a whole SEQUENCE, read.
+fn are_read(alloc: Global, octets: &[u8]) -> bool {
+    let Some(cert) = with_extensions(octets) else {
+        return false;
     };
-    match read_extensions(alloc, &cert)? {
-        Some(extensions) => Ok((true, extensions.usage)),
-        None => Ok((false, None)),
+    match read_extensions(alloc, &cert) {
+        Ok(extensions) => extensions.is_some(),
+        Err(_) => false,
     }
 }
 
-// The same of extensions in a SEQUENCE.
-fn usage_of(alloc: Global, list: &[u8]) -> Result<(bool, Option<u16>), Fail> {
-    let mut octets = Vec::new(alloc);
-    octets.extend_from_slice(&[0x30, (list.len() % 128) as u8])?;
-    octets.extend_from_slice(list)?;
-    usage_with(alloc, &octets)
+// Whether they read and say this key usage.
+fn say_usage(alloc: Global, octets: &[u8], usage: u16) -> bool {
+    let Some(cert) = with_extensions(octets) else {
+        return false;
+    };
+    match read_extensions(alloc, &cert) {
+        Ok(Some(extensions)) => extensions.usage == Some(usage),
+        Ok(None) => false,
+        Err(_) => false,
+    }
 }
 
-fn read(alloc: Global, list: &[u8]) -> Result<bool, Fail> {
-    Ok(usage_of(alloc, list)?.0)
-}
+const UNKNOWN: &[u8] = b"\x30\x07\x30\x05\x06\x01\x2a\x04\x00";
+
+const UNKNOWN_CRITICAL: &[u8] = b"\x30\x0a\x30\x08\x06\x01\x2a\x01\x01\xff\x04\x00";
+
+const UNKNOWN_TWICE: &[u8] = b"\x30\x0e\x30\x05\x06\x01\x2a\x04\x00\x30\x05\x06\x01\x2a\x04\x00";
+
+// A subjectAltName that is critical and is no text of one.
+const ALT_NAME: &[u8] = b"\x30\x0c\x30\x0a\x06\x03\x55\x1d\x11\x01\x01\xff\x04\x00";
+
+// An authorityKeyIdentifier without keyIdentifier, and a pathLenConstraint without cA.
+const NO_IDENTIFIER: &[u8] = b"\x30\x0d\x30\x0b\x06\x03\x55\x1d\x23\x04\x04\x30\x02\x82\x00";
+
+const NO_CA: &[u8] = b"\x30\x0e\x30\x0c\x06\x03\x55\x1d\x13\x04\x05\x30\x03\x02\x01\x00";
+
+// keyUsages with bit 5, with bit 8, and with an unused bit that isn't zero.
+const SIGNS: &[u8] = b"\x30\x0d\x30\x0b\x06\x03\x55\x1d\x0f\x04\x04\x03\x02\x02\x04";
+
+const DECIPHERS: &[u8] = b"\x30\x0e\x30\x0c\x06\x03\x55\x1d\x0f\x04\x05\x03\x03\x07\x00\x80";
+
+const UNUSED_BIT: &[u8] = b"\x30\x0d\x30\x0b\x06\x03\x55\x1d\x0f\x04\x04\x03\x02\x03\x04";
 
 #[test]
-fn tells_extensions_from_other_octets(rt: HostRuntime) -> Result<(), Fail> {
+fn tells_extensions_from_other_octets(rt: HostRuntime) {
     let alloc = rt.alloc();
-    assert!(rt; read(alloc, b"")?);
-    // an unknown one, twice, critical, and with its DEFAULT written
-    assert!(rt; read(alloc, b"\x30\x05\x06\x01\x2a\x04\x00")?);
-    assert!(rt;
-        !read(
-            alloc,
-            b"\x30\x05\x06\x01\x2a\x04\x00\x30\x05\x06\x01\x2a\x04\x00"
-        )?
-    );
-    assert!(rt; !read(alloc, b"\x30\x08\x06\x01\x2a\x01\x01\xff\x04\x00")?);
-    assert!(rt; !read(alloc, b"\x30\x08\x06\x01\x2a\x01\x01\x00\x04\x00")?);
-    // a subjectAltName that is critical and is no text of one
-    assert!(rt; read(alloc, b"\x30\x0a\x06\x03\x55\x1d\x11\x01\x01\xff\x04\x00")?);
-    // subjectKeyIdentifiers of 1 and of 0 octets, and of two values
-    assert!(rt; read(alloc, b"\x30\x0a\x06\x03\x55\x1d\x0e\x04\x03\x04\x01a")?);
-    assert!(rt; !read(alloc, b"\x30\x09\x06\x03\x55\x1d\x0e\x04\x02\x04\x00")?);
-    assert!(rt;
-        !read(
-            alloc,
-            b"\x30\x0c\x06\x03\x55\x1d\x0e\x04\x05\x04\x01a\x05\x00"
-        )?
-    );
-    // authorityKeyIdentifiers without keyIdentifier, with one of 0 octets, and out of order
-    assert!(rt;
-        read(
-            alloc,
-            b"\x30\x0b\x06\x03\x55\x1d\x23\x04\x04\x30\x02\x82\x00"
-        )?
-    );
-    assert!(rt;
-        !read(
-            alloc,
-            b"\x30\x0b\x06\x03\x55\x1d\x23\x04\x04\x30\x02\x80\x00"
-        )?
-    );
-    assert!(rt;
-        !read(
-            alloc,
-            b"\x30\x0d\x06\x03\x55\x1d\x23\x04\x06\x30\x04\x82\x00\xa1\x00"
-        )?
-    );
-    // a pathLenConstraint without cA, one below zero, and cA with its DEFAULT written
-    assert!(rt;
-        read(
-            alloc,
-            b"\x30\x0c\x06\x03\x55\x1d\x13\x04\x05\x30\x03\x02\x01\x00"
-        )?
-    );
-    assert!(rt;
-        !read(
-            alloc,
-            b"\x30\x0c\x06\x03\x55\x1d\x13\x04\x05\x30\x03\x02\x01\x80"
-        )?
-    );
-    assert!(rt;
-        !read(
-            alloc,
-            b"\x30\x0c\x06\x03\x55\x1d\x13\x04\x05\x30\x03\x01\x01\x00"
-        )?
-    );
-    Ok(())
+    assert!(rt; are_read(alloc, UNKNOWN) && are_read(alloc, ALT_NAME));
+    assert!(rt; !are_read(alloc, UNKNOWN_CRITICAL) && !are_read(alloc, UNKNOWN_TWICE));
+    assert!(rt; are_read(alloc, NO_IDENTIFIER) && are_read(alloc, NO_CA));
+    assert!(rt; say_usage(alloc, SIGNS, 32) && say_usage(alloc, DECIPHERS, 256));
+    assert!(rt; !are_read(alloc, UNUSED_BIT));
 }
 
-#[test]
-fn reads_key_usages(rt: HostRuntime) -> Result<(), Fail> {
-    let alloc = rt.alloc();
-    // no bits, bit 5, bit 8, and bit 9; and an unused bit that isn't zero
-    let none = b"\x30\x0a\x06\x03\x55\x1d\x0f\x04\x03\x03\x01\x00";
-    assert_eq!(rt; usage_of(alloc, none)?, (true, Some(0)));
-    let sign = b"\x30\x0b\x06\x03\x55\x1d\x0f\x04\x04\x03\x02\x02\x04";
-    assert_eq!(rt; usage_of(alloc, sign)?, (true, Some(32)));
-    let last = b"\x30\x0c\x06\x03\x55\x1d\x0f\x04\x05\x03\x03\x07\x00\x80";
-    assert_eq!(rt; usage_of(alloc, last)?, (true, Some(256)));
-    let past = b"\x30\x0c\x06\x03\x55\x1d\x0f\x04\x05\x03\x03\x06\x00\x40";
-    assert_eq!(rt; usage_of(alloc, past)?, (true, Some(0)));
-    let unused = b"\x30\x0b\x06\x03\x55\x1d\x0f\x04\x04\x03\x02\x03\x04";
-    assert_eq!(rt; usage_of(alloc, unused)?, (false, None));
-    Ok(())
+const NAME: &[u8] = b"\x30\x00";
+
+fn has_its_parts(anchor: &Anchor) -> bool {
+    let Some(constraints) = anchor.constraints() else {
+        return false;
+    };
+    anchor.subject() == NAME
+        && anchor.key_id().octets() == b"a".as_slice()
+        && anchor.key() == &[7; 60]
+        && anchor.constraints_text() == Some(CONSTRAINTS)
+        && are_those(&constraints)
 }
 
-// Whether an anchor is made of these.
-fn is_made(alloc: Global, subject: &[u8], key_id: &[u8], constraints: &[u8]) -> Result<bool, Fail> {
-    let mut name = Vec::new(alloc);
-    name.extend_from_slice(subject)?;
-    let mut text = Vec::new(alloc);
-    text.extend_from_slice(constraints)?;
-    let Some(id) = Octets64::new(key_id) else {
-        return Err(Fail::from("no key identifier"));
+// Whether an anchor is made of this name and these constraints.
+fn is_made_of(alloc: Global, name: Vec<u8>, constraints: Vec<u8>) -> bool {
+    let Some(id) = Octets64::new(b"a") else {
+        return false;
     };
-    let Some(anchor) = Anchor::new(alloc, name, id, [7; 60], Some(text))? else {
-        return Ok(false);
-    };
-    if anchor.subject() != subject || anchor.key_id() != id || anchor.key() != &[7; 60] {
-        return Err(Fail::from("other parts"));
+    match Anchor::new(alloc, name, id, [7; 60], Some(constraints)) {
+        Ok(Some(anchor)) => has_its_parts(&anchor),
+        Ok(None) => false,
+        Err(_) => false,
     }
-    if anchor.constraints_text() != Some(constraints) {
-        return Err(Fail::from("other constraints"));
-    }
-    match anchor.constraints() {
-        Some(constraints) => Ok(constraints.entries().next().is_some()),
-        None => Err(Fail::from("no constraints")),
+}
+
+fn is_made(alloc: Global, name: &[u8], constraints: &[u8]) -> bool {
+    match (name.to_vec(alloc), constraints.to_vec(alloc)) {
+        (Ok(name), Ok(constraints)) => is_made_of(alloc, name, constraints),
+        _ => false,
     }
 }
 
 #[test]
-fn makes_anchors_of_their_parts(rt: HostRuntime) -> Result<(), Fail> {
+fn makes_anchors_of_their_parts(rt: HostRuntime) {
     let alloc = rt.alloc();
-    assert!(rt; CONSTRAINTS == &ED25519[308..373]);
-    assert!(rt; is_made(alloc, b"\x30\x00", b"a", CONSTRAINTS)?);
-    assert!(rt; !is_made(alloc, b"\x31\x00", b"a", CONSTRAINTS)?);
-    assert!(rt; !is_made(alloc, b"\x30\x00\x30\x00", b"a", CONSTRAINTS)?);
-    assert!(rt; !is_made(alloc, b"\x30\x00", b"", CONSTRAINTS)?);
-    assert!(rt; !is_made(alloc, b"\x30\x00", b"a", b"\x30\x00")?);
-    Ok(())
+    assert!(rt; is_made(alloc, NAME, CONSTRAINTS));
+    assert!(rt; !is_made(alloc, b"\x31\x00", CONSTRAINTS) && !is_made(alloc, NAME, NAME));
 }
