@@ -48,10 +48,10 @@ def signer_info(attrs, signer, key_id, version=3, digest=SHA_256, algorithm=HSS,
                der(0x04, signature), behind)
 
 
-def item(info, certs=b"", content=WRAPPED, kind=FIRMWARE, version=3, encap=None, outer=SIGNED):
+def item(info, certs=b"", content=WRAPPED, kind=FIRMWARE, version=3, encap=None, outer=SIGNED, digests=b""):
     encap = encap or der(0x30, kind, der(0xA0, der(0x04, content)))
     certs = der(0xA0, certs) if certs else b""
-    data = der(0x30, der(0x02, bytes([version])), der(0x31), encap, certs, der(0x31, info))
+    data = der(0x30, der(0x02, bytes([version])), der(0x31, digests), encap, certs, der(0x31, info))
     return der(0x30, outer, der(0xA0, data))
 
 

@@ -1,5 +1,6 @@
 #!/usr/bin/env python3
-"""Makes the vectors of LMS and HSS that the tests of lms_verify, hss_chain, lms_sign and module_record hold.
+"""Makes the vectors of LMS and HSS that the tests of lms_verify, hss_chain, lms_sign, module_record, run_rows and
+judge_rows hold.
 
 A plain signer straight from the equations of RFC 8554 (sections 3.1.3, 4.3 to 4.5, 5.3, 5.4.1 and Appendix A), which
 shares no code with the crates. Secrets and the randomizer C follow from SEED as in Appendix A, C as the secret of
@@ -139,9 +140,10 @@ def main():
     show("leaf node 37", leaf_value(identifier, 37, seed))
     show("inner node 18", inner_value(identifier, 18, seed, b"\x5a" * 32))
     show("message value of 'ab' at leaf 9", message_value(identifier, 9, seed, b"ab"))
-    ones = Key(b"\x01" * 32, b"\x01" * 16, 5, 3)
-    show("public key of SEED and I of octets 01", u32str(1) + ones.public())
-    show("its key identifier", digest(u32str(1) + ones.public())[:20])
+    for octet in range(1, 6):
+        public = u32str(1) + Key(bytes([octet] * 32), bytes([octet] * 16), 5, 3).public()
+        show(f"public key, H5 and W4, of SEED and I of octets {octet:02}", public)
+        show("its key identifier", digest(public)[:20])
 
 
 if __name__ == "__main__":

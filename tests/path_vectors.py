@@ -54,8 +54,8 @@ NAME_CONSTRAINTS = extension(b"\x55\x1d\x1e", der(0x30), True)
 
 
 class Signer:
-    def __init__(self, letter):
-        self.key, self.leaf = Key(letter * 32, letter * 16, 5, 4), 0
+    def __init__(self, letter, ots=4):
+        self.key, self.leaf = Key(letter * 32, letter * 16, 5, ots), 0
 
     def public(self):
         return u32str(1) + self.key.public()

@@ -34,8 +34,9 @@ fn key(octet: u8) -> SignKey
     }
 }
 
-// The public keys of octets 01 to 05, as a signer in Python with hashlib gave them: one level, H5 and W4,
-// and then the identifier and the root of the tree (RFC 8554, sections 5.3 and 6.1).
+// The public keys of octets 01 to 05, as `tests/lms_vectors.py` at the top of the repository prints
+// them: one level, H5 and W4, and then the identifier and the root of the tree (RFC 8554, sections
+// 5.3 and 6.1).
 const PUBLIC_KEYS: [&str; 5] = [
     "00000001000000050000000301010101010101010101010101010101\
     66bf6f5816eee4bbf33c50acb480e09b4169ebb533372959bc4315c388e501ac",

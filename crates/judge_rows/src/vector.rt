@@ -1,4 +1,5 @@
-// Packages by another implementation: a signer in Python with hashlib, by RFC 8554, and DER by hand.
+// Packages by another implementation: `tests/package_vectors.py` at the top of the repository
+// prints this file.
 
 // The package 1.2.3.1 in version 7 for hardware 1.2.3, whose image is `hello`, by the key H5 W4 of octets
 // 01 with its first leaf, and with the signer's key identifier A1.

@@ -20,7 +20,7 @@ const RECIPE: &str = "key H5 W4 010101010101010101010101010101010101010101010101
 const TALL: &str = "key H15 W4 0101010101010101010101010101010101010101010101010101010101010101 \
      01010101010101010101010101010101\n";
 
-// Its key and the key's name, as a signer in Python with hashlib gave them.
+// Its key and the key's name, as `tests/lms_vectors.py` at the top of the repository prints them.
 const MADE: &str = "key 00000001000000050000000301010101010101010101010101010101\
      66bf6f5816eee4bbf33c50acb480e09b4169ebb533372959bc4315c388e501ac \
      9e24e304e0b833083b09c8c46f3c6dfacb469cb8\n";

@@ -15,7 +15,7 @@ const RECIPE: &str = "hwtype 1.2.3\nserial 0001\ncapacity 16\n\
      anchor root a1 00000001000000050000000301010101010101010101010101010101\
      66bf6f5816eee4bbf33c50acb480e09b4169ebb533372959bc4315c388e501ac -\n";
 
-// Its key and the key's name, as a signer in Python with hashlib gave them.
+// Its key and the key's name, as `tests/lms_vectors.py` at the top of the repository prints them.
 const MADE: &str = "made 00000001000000050000000301010101010101010101010101010101\
      66bf6f5816eee4bbf33c50acb480e09b4169ebb533372959bc4315c388e501ac \
      9e24e304e0b833083b09c8c46f3c6dfacb469cb8\n";

@@ -1,5 +1,6 @@
-// A vector of a signer in Python with hashlib that follows RFC 8554: a key of two levels, both H5 and W8,
-// and its signature of the octets "firmware". The top key has I = 10 .. 1f and SEED = 60 .. 7f, the lower
+// The digits of examples/two_levels.hex, which `tests/two_levels.py` at the top of the repository
+// prints, by a signer of its own: a key of two levels (RFC 8554, section 6), both H5 and W8, and its
+// signature of the octets "firmware". The top key has I = 10 .. 1f and SEED = 60 .. 7f, the lower
 // one I = 20 .. 2f and SEED = 80 .. 9f. Leaves 5 and 6 have signed.
 
 // The input of `sigcheck`: a SEQUENCE of the key's 60 octets, the message and the signature's 2,644
