@@ -17,24 +17,30 @@ const MODULE: &str = "hwtype 1.2.3\nserial 0001\ncapacity 16\n\
 const KEY: &str = "key H5 W4 0101010101010101010101010101010101010101010101010101010101010101 \
      01010101010101010101010101010101\n";
 
-// The certificate of an authority for packages 1.2.3.1 from version 7 on.
+// The certificate of an authority, but for what it may sign.
 const AUTHORITY: &str = "serial 01\nissuer root\nsubject authority\nfrom 20200101000000\n\
      to 20491231235959\npublic 00000001000000050000000301010101010101010101010101010101\
      66bf6f5816eee4bbf33c50acb480e09b4169ebb533372959bc4315c388e501ac\n\
-     subjectkey c1\nauthoritykey a1\nca -\nusage certsign\n\
-     constraint 302e302c060b2a864886f70d0109100110301d301b060b2a864886f70d0109100223\
-     310c300a300806032a0301020107\n";
+     subjectkey c1\nauthoritykey a1\nca -\nusage certsign\n";
 
-// The certificate of a signer for any content.
+// The certificate of a signer under it, but for what it may sign.
 const SIGNER: &str = "serial 02\nissuer authority\nsubject signer\nfrom 20200101000000\n\
      to 20491231235959\npublic 00000001000000050000000301010101010101010101010101010101\
      66bf6f5816eee4bbf33c50acb480e09b4169ebb533372959bc4315c388e501ac\n\
-     subjectkey b1\nauthoritykey c1\nusage sign\n\
-     constraint 300f300d060b2a864886f70d0109100100\n";
+     subjectkey b1\nauthoritykey c1\nusage sign\n";
 
-// What the path permits.
-const FRONT: &str = "path 2 anchor 0\nallow 1.2.840.113549.1.9.16.1.16\n\
-     attr 1.2.840.113549.1.9.16.2.35 300a300806032a0301020107\ndeny other\n";
+// What an authority and a signer under it may sign, and the line of the attributes with which a
+// firmware package may then be signed.
+pub(crate) struct Grants {
+    pub(crate) authority: &'static str,
+    pub(crate) signer: &'static str,
+    pub(crate) attributes: &'static str,
+}
+
+// What is told of each path: before those attributes, and behind them.
+const FRONT: &str = "path 2 anchor 0\nallow 1.2.840.113549.1.9.16.1.16\n";
+
+const BEHIND: &str = "deny other\n";
 
 const AT: &str = "f explain 20300101000000";
 
@@ -65,14 +71,31 @@ fn push_certificate(alloc: Global, recipe: &mut String, octets: &[u8]) -> Result
     recipe.push_str("\n")
 }
 
-// A package of this name, signed by the signer, with its path.
-fn package(rt: &impl Abort, alloc: Global, name: &str) -> Result<Vec<u8>, AllocError> {
+// The certificate by these lines and what it may sign.
+fn certificate(
+    rt: &impl Abort,
+    alloc: Global,
+    lines: &str,
+    constraint: &str,
+    board: &mut MemBoard,
+) -> Result<Vec<u8>, AllocError> {
+    let recipe = [lines, constraint].concat(alloc)?;
+    sent(rt, alloc, "f issue", &recipe, board)
+}
+
+// A package of these lines, signed by the signer, with its path.
+fn package(
+    rt: &impl Abort,
+    alloc: Global,
+    grants: &Grants,
+    lines: &str,
+) -> Result<Vec<u8>, AllocError> {
     let mut board = MemBoard::new(alloc, 18, Vec::new(alloc), 1000, 40_000)?;
     sent(rt, alloc, "f key-new", KEY, &mut board)?;
-    let authority = sent(rt, alloc, "f issue", AUTHORITY, &mut board)?;
-    let signer = sent(rt, alloc, "f issue", SIGNER, &mut board)?;
-    let mut recipe = String::from_str(alloc, name)?;
-    recipe.push_str("target 1.2.3\nsigner b1\nimage 68656c6c6f\n")?;
+    let authority = certificate(rt, alloc, AUTHORITY, grants.authority, &mut board)?;
+    let signer = certificate(rt, alloc, SIGNER, grants.signer, &mut board)?;
+    let mut recipe = String::from_str(alloc, lines)?;
+    recipe.push_str("signer b1\nimage 68656c6c6f\n")?;
     push_certificate(alloc, &mut recipe, &signer)?;
     push_certificate(alloc, &mut recipe, &authority)?;
     sent(rt, alloc, "f pack", &recipe, &mut board)
@@ -93,33 +116,42 @@ fn says(
     ends(rt, alloc, AT, &mut source, &mut board, wanted, answer)
 }
 
-// The same of a package of this name, whose path is that of the certificates.
+// The same of a package by these lines, whose path of two grants what it does.
 fn explains(
     rt: &impl Abort,
     alloc: Global,
-    name: &str,
+    grants: &Grants,
+    lines: &str,
     wanted: Status,
     verdict: &str,
 ) -> Result<(), AllocError> {
-    let input = package(rt, alloc, name)?;
+    let input = package(rt, alloc, grants, lines)?;
     let mut answer = String::from_str(alloc, FRONT)?;
+    answer.push_str(grants.attributes)?;
+    answer.push_str(BEHIND)?;
     answer.push_str(verdict)?;
     says(rt, alloc, input, wanted, &answer)
 }
 
-#[test]
-fn a_package_that_the_path_permits_is_accepted(rt: HostRuntime) -> Result<(), Fail> {
-    let name = "package 1.2.3.1 7\n";
-    explains(&rt, rt.alloc(), name, Status::Done, "verdict accepted\n")?;
-    Ok(())
+// The package is permitted.
+pub(crate) fn permits(
+    rt: &impl Abort,
+    alloc: Global,
+    grants: &Grants,
+    lines: &str,
+) -> Result<(), AllocError> {
+    explains(rt, alloc, grants, lines, Status::Done, "verdict accepted\n")
 }
 
-#[test]
-fn another_package_is_refused_by_its_name(rt: HostRuntime) -> Result<(), Fail> {
-    let name = "package 1.2.3.2 7\n";
-    let refused = "verdict refused 28 11\n";
-    explains(&rt, rt.alloc(), name, Status::SomeRefused, refused)?;
-    Ok(())
+// It isn't, though its path permits others.
+pub(crate) fn refuses(
+    rt: &impl Abort,
+    alloc: Global,
+    grants: &Grants,
+    lines: &str,
+) -> Result<(), AllocError> {
+    let verdict = "verdict refused 28 11\n";
+    explains(rt, alloc, grants, lines, Status::SomeRefused, verdict)
 }
 
 // No path is told of what is no package, and no verdict where there is no module.

@@ -6,7 +6,7 @@
 //! ample memory a command comes to its end.
 //!
 //! A row is one call of a small function, whose octets are hex text. `row` has the functions that
-//! all commands share, and each command has a file.
+//! all commands share, and each command has a file; `permitted` has rows of `explain`.
 #![tactic(auto)]
 
 #[cfg(test)]
@@ -21,6 +21,8 @@ mod key_new;
 mod module;
 #[cfg(test)]
 mod package_set;
+#[cfg(test)]
+mod permitted;
 #[cfg(test)]
 mod rehearse;
 #[cfg(test)]
