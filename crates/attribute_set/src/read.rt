@@ -55,7 +55,6 @@ pub fn read_attribute_set<'a>(
 #[cfg(test)]
 mod tests {
     use super::*;
-    use std::test::Fail;
 
     // Attributes of the types 1.2 and 1.3 without values, and one of type 1.2 with a NULL, worked
     // by hand from RFC 5652, section 5.3, and X.690. The third has more octets, so it stands last.
@@ -65,27 +64,31 @@ mod tests {
 
     const LONGER: &[u8] = b"\x30\x07\x06\x01\x2a\x31\x02\x05\x00";
 
-    // Whether there is a first attribute, where the parts are attributes in the order of DER.
-    fn begins(alloc: Global, parts: &[&[u8]]) -> Result<Option<bool>, AllocError> {
+    // Whether the parts are read exactly where they should be, and the first attribute is there.
+    fn is_answer(alloc: Global, parts: &[&[u8]], in_order: bool) -> bool {
         let mut octets = Vec::new(alloc);
         for part in parts {
-            octets.extend_from_slice(part)?;
+            if octets.extend_from_slice(part).is_err() {
+                return false;
+            }
         }
-        match read_attribute_set(alloc, &octets)? {
-            Some(attributes) => Ok(Some(attributes.iter().next().is_some())),
-            None => Ok(None),
+        match read_attribute_set(alloc, &octets) {
+            Ok(Some(attributes)) => in_order && attributes.iter().next().is_some(),
+            Ok(None) => !in_order,
+            Err(_) => false,
         }
     }
 
+    // The last two: out of order, which the length decides first, and a type twice, not beside it.
+    fn sets_are_read(alloc: Global) -> bool {
+        is_answer(alloc, &[FIRST, SECOND], true)
+            && is_answer(alloc, &[SECOND, LONGER], true)
+            && is_answer(alloc, &[LONGER, SECOND], false)
+            && is_answer(alloc, &[FIRST, SECOND, LONGER], false)
+    }
+
     #[test]
-    fn attributes_stand_in_order(rt: HostRuntime) -> Result<(), Fail> {
-        let alloc = rt.alloc();
-        assert_eq!(rt; begins(alloc, &[FIRST, SECOND])?, Some(true));
-        assert_eq!(rt; begins(alloc, &[SECOND, LONGER])?, Some(true));
-        // out of order, which the length decides first
-        assert_eq!(rt; begins(alloc, &[LONGER, SECOND])?, None);
-        // a type twice, and not beside it
-        assert_eq!(rt; begins(alloc, &[FIRST, SECOND, LONGER])?, None);
-        Ok(())
+    fn attributes_stand_in_order(rt: HostRuntime) {
+        assert!(rt; sets_are_read(rt.alloc()));
     }
 }
