@@ -75,43 +75,46 @@ mod tests {
     use super::*;
     use crate::{Unmet, unmet};
     use config_table::BlockNumbers;
-    use der_core::{Octets64, read_oid};
+    use der_core::read_oid;
     use package_attrs::{Identifier, Names, read_info, read_targets};
     use std::alloc::Global;
-    use std::test::Fail;
 
-    // 1.2.3 and the octet in this version, or the legacy name of that octet.
-    fn name(octet: u8, version: Option<u128>) -> Option<PackageName> {
-        match version {
-            Some(version) => {
-                let id = read_oid(&[0x2a, 3, octet])?;
-                Some(PackageName::Preferred { id, version })
-            }
-            None => Some(PackageName::Legacy(Octets64::new(&[octet])?)),
-        }
+    // 1.2.3 and the octet in this version.
+    fn preferred(octet: u8, version: u128) -> Option<PackageName> {
+        let id = read_oid(&[0x2a, 3, octet])?;
+        Some(PackageName::Preferred { id, version })
     }
 
-    fn installed(
+    fn is_put(
         alloc: Global,
+        state: &mut State,
         name: Option<PackageName>,
         need: Option<PackageName>,
-    ) -> Result<Installed, Fail> {
-        Ok(Installed {
-            name: name.ok_or("a bad name")?,
+    ) -> bool {
+        let Some(name) = name else {
+            return false;
+        };
+        let Some(need) = need else {
+            return false;
+        };
+        let Ok(needs) = vec![in alloc; need] else {
+            return false;
+        };
+        let installed = Installed {
+            name,
             digest: [0; 32],
             length: 1,
             blocks: BlockNumbers::new(Vec::new(alloc)),
             kind: None,
-            needs: Names::new(vec![in alloc; need.ok_or("a bad need")?]?),
-        })
+            needs: Names::new(needs),
+        };
+        state.replace(installed).is_ok()
     }
 
-    // 1.2.3.2 version 4 needs a legacy name that isn't there, and 1.2.3.3 needs 1.2.3.2 version 4.
-    fn two_packages(alloc: Global) -> Result<State, Fail> {
-        let mut state = State::new(alloc);
-        state.replace(installed(alloc, name(2, Some(4)), name(9, None))?)?;
-        state.replace(installed(alloc, name(3, Some(1)), name(2, Some(4)))?)?;
-        Ok(state)
+    // 1.2.3.2 version 4 needs 1.2.3.9, which isn't there, and 1.2.3.3 needs 1.2.3.2 version 4.
+    fn has_two(alloc: Global, state: &mut State) -> bool {
+        is_put(alloc, state, preferred(2, 4), preferred(9, 1))
+            && is_put(alloc, state, preferred(3, 1), preferred(2, 4))
     }
 
     // A package of this name with the dependencies in these octets.
@@ -126,40 +129,29 @@ mod tests {
         })
     }
 
-    // The place of the first that a package of this name breaks.
-    fn breaks(state: &State, octet: u8, version: Option<u128>) -> Option<usize> {
-        broken_by(state, &package(name(octet, version)?, b"\x30\x00")?)
-    }
-
-    #[test]
-    fn tells_who_is_broken(rt: HostRuntime) -> Result<(), Fail> {
-        let state = two_packages(rt.alloc())?;
-        assert_eq!(rt; breaks(&state, 2, Some(3)), Some(1));
-        assert_eq!(rt; breaks(&state, 2, Some(5)), None);
-        assert_eq!(rt; breaks(&state, 9, None), None);
-        Ok(())
+    // The place of the first that 1.2.3.2 breaks in this version.
+    fn breaks(state: &State, version: u128) -> Option<usize> {
+        broken_by(state, &package(preferred(2, version)?, b"\x30\x00")?)
     }
 
     // What a package with the dependencies in these octets lacks.
     fn lacks(state: &State, info: &[u8]) -> Option<Option<Unmet>> {
-        Some(unmet(state, &package(name(8, None)?, info)?))
+        Some(unmet(state, &package(preferred(8, 1)?, info)?))
     }
 
-    // 1.2.3.2 version 4; then 1.2.3.3 version 2 behind it; and both with the legacy name 02.
+    // 1.2.3.2 version 4; then 1.2.3.3 version 2 behind it.
     const ONE: &[u8] = b"\x30\x0c\x30\x0a\x30\x08\x06\x03\x2a\x03\x02\x02\x01\x04";
 
     const TWO: &[u8] = b"\x30\x16\x30\x14\x30\x08\x06\x03\x2a\x03\x02\x02\x01\x04\
         \x30\x08\x06\x03\x2a\x03\x03\x02\x01\x02";
 
-    const THREE: &[u8] = b"\x30\x19\x30\x17\x30\x08\x06\x03\x2a\x03\x03\x02\x01\x02\
-        \x30\x08\x06\x03\x2a\x03\x02\x02\x01\x04\x04\x01\x02";
-
     #[test]
-    fn tells_what_is_unmet(rt: HostRuntime) -> Result<(), Fail> {
-        let state = two_packages(rt.alloc())?;
-        assert_eq!(rt; lacks(&state, ONE), Some(None));
-        assert_eq!(rt; lacks(&state, TWO), Some(Some(Unmet::TooOld(1))));
-        assert_eq!(rt; lacks(&state, THREE), Some(Some(Unmet::Missing(2))));
-        Ok(())
+    fn tells_what_is_broken_and_unmet(rt: HostRuntime) {
+        let mut state = State::new(rt.alloc());
+        assert!(rt; has_two(rt.alloc(), &mut state));
+        assert!(rt; breaks(&state, 3) == Some(1));
+        assert!(rt; breaks(&state, 5) == None);
+        assert!(rt; lacks(&state, ONE) == Some(None));
+        assert!(rt; lacks(&state, TWO) == Some(Some(Unmet::TooOld(1))));
     }
 }
