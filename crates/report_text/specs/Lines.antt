@@ -8,8 +8,8 @@ use Rattle.der_core.specs.LoadError.{error_number}
 use Rattle.der_core.specs.Time.{last_digits}
 use Rattle.package_attrs.specs.declared.name.PackageName.{PackageName}
 use Rattle.config_table.specs.declared.stale_entry.StaleEntry.{StaleEntry}
-use Rattle.config_table.specs.State.{Entry, State, state_with, last_stale}
-use Rattle.config_table.specs.Stored.{Stored}
+use Rattle.config_table.specs.State.{Entry, State, last_stale}
+pub use Rattle.config_table.specs.Stored.{lengths}
 use Rattle.report_text.specs.Names.{named}
 
 -- a package, with its image's length in octets and its digest: `package NAMED length N sha256 HEX`
@@ -25,10 +25,6 @@ stale_line entry = codes "stale " ++ named (last_stale entry) ++ codes "\n"
 -- the packages in their order, and then the stale entries in theirs
 abbrev pub state_lines : State ℕ → List ℕ
 state_lines state = flat_map package_line state.packages ++ flat_map stale_line state.stale
-
--- the state with the lengths of its images alone
-abbrev pub lengths : State Stored → State ℕ
-lengths state = state_with (λ image. image.length) state
 
 -- a package that is accepted: `accepted NAMED`
 abbrev pub accepted_line : PackageName → List ℕ

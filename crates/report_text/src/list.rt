@@ -1,7 +1,8 @@
 // The lines of a module: what it is, how far it has come, and what is installed.
 ghost use Rattle.std.specs.Prelude.{◌≡◌, ◌++◌, string_bytes, OnOk, OnErr, IfOk};
 ghost use Rattle.lms_sign.specs.PublicKeys.{leaf_count};
-ghost use Rattle.report_text.specs.Lines.{lengths, state_lines};
+ghost use Rattle.config_table.specs.Stored.{lengths};
+ghost use Rattle.report_text.specs.Lines.{state_lines};
 ghost use Rattle.report_text.specs.ListLines.{module_line, counts_lines, list_lines};
 
 use crate::name::push_hex;

@@ -2,8 +2,8 @@
 ghost use Rattle.std.specs.Prelude.{◌≡◌, ◌++◌, string_bytes, map, OnOk, OnErr, IfOk};
 ghost use Rattle.std.specs.List.{flat_map};
 ghost use Rattle.config_table.specs.State.{entry_with};
-ghost use Rattle.config_table.specs.Stored.{entry_of};
-ghost use Rattle.report_text.specs.Lines.{package_line, stale_line, state_lines, lengths};
+ghost use Rattle.config_table.specs.Stored.{entry_of, lengths};
+ghost use Rattle.report_text.specs.Lines.{package_line, stale_line, state_lines};
 
 use crate::name::{push_hex, push_name};
 use config_table::{Installed, StaleEntry, State};
@@ -97,7 +97,6 @@ mod tests {
     use config_table::BlockNumbers;
     use der_core::{Octets64, read_oid};
     use package_attrs::{Names, PackageName};
-    use std::test::Fail;
 
     // SHA-256 of no octets (FIPS 180-4).
     const EMPTY: [u8; 32] = [
@@ -106,46 +105,55 @@ mod tests {
         0xb8, 0x55,
     ];
 
-    const LINES: &[u8] = b"> package preferred 1.2.3.1 7 length 0 sha256 \
+    const LINES: &[u8] = b"package preferred 1.2.3.1 7 length 0 sha256 \
         e3b0c44298fc1c149afbf4c8996fb92427ae41e4649b934ca495991b7852b855\n\
         package legacy 00ff length 4294967295 sha256 \
         e3b0c44298fc1c149afbf4c8996fb92427ae41e4649b934ca495991b7852b855\n\
         stale preferred 1.2.3.1 9\n\
         stale legacy 0a\n";
 
-    fn install(
-        alloc: Global,
-        state: &mut State,
-        name: PackageName,
-        length: u32,
-    ) -> Result<(), Fail> {
-        state.replace(Installed {
-            name,
+    fn is_installed(alloc: Global, state: &mut State, name: &PackageName, length: u32) -> bool {
+        let installed = Installed {
+            name: *name,
             digest: EMPTY,
             length,
             blocks: BlockNumbers::new(Vec::new(alloc)),
             kind: None,
             needs: Names::new(Vec::new(alloc)),
-        })?;
-        Ok(())
+        };
+        state.replace(installed).is_ok()
     }
 
-    // Packages and stale entries of both kinds, behind octets that stay.
-    #[test]
-    fn puts_packages_and_then_stale_entries(rt: HostRuntime) -> Result<(), Fail> {
-        let alloc = rt.alloc();
-        let id = read_oid(&[0x2a, 0x03, 0x01]).ok_or("1.2.3.1 is an identifier")?;
+    // Packages and stale entries of both kinds.
+    fn has_both(alloc: Global, state: &mut State) -> bool {
+        let Some(id) = read_oid(&[0x2a, 3, 1]) else {
+            return false;
+        };
+        let Some(legacy) = Octets64::new(&[0x00, 0xff]) else {
+            return false;
+        };
+        let Some(old) = Octets64::new(&[0x0a]) else {
+            return false;
+        };
         let preferred = PackageName::Preferred { id, version: 7 };
-        let legacy = PackageName::Legacy(Octets64::new(&[0x00, 0xff]).ok_or("two octets")?);
-        let old = Octets64::new(&[0x0a]).ok_or("one octet")?;
-        let mut state = State::new(alloc);
-        install(alloc, &mut state, preferred, 0)?;
-        install(alloc, &mut state, legacy, u32::MAX)?;
-        state.take_stale(StaleEntry::Preferred { id, upto: 9 })?;
-        state.take_stale(StaleEntry::Legacy(old))?;
-        let mut out = b"> ".to_vec(alloc)?;
-        put_state(alloc, &mut out, &state)?;
-        assert!(rt; out.as_slice() == LINES, "{out:?}");
-        Ok(())
+        let named = PackageName::Legacy(legacy);
+        is_installed(alloc, state, &preferred, 0)
+            && is_installed(alloc, state, &named, u32::MAX)
+            && state
+                .take_stale(StaleEntry::Preferred { id, upto: 9 })
+                .is_ok()
+            && state.take_stale(StaleEntry::Legacy(old)).is_ok()
+    }
+
+    fn is_put(alloc: Global, state: &State, lines: &[u8]) -> bool {
+        let mut out = Vec::new(alloc);
+        put_state(alloc, &mut out, state).is_ok() && out.as_slice() == lines
+    }
+
+    #[test]
+    fn puts_packages_and_then_stale_entries(rt: HostRuntime) {
+        let mut state = State::new(rt.alloc());
+        assert!(rt; has_both(rt.alloc(), &mut state));
+        assert!(rt; is_put(rt.alloc(), &state, LINES));
     }
 }
