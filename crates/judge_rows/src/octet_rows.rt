@@ -1,31 +1,36 @@
 // The conditions 1 to 9 and the octets of an item's head: an item on which each is the first that fails,
 // and items that fail two neighbours (RFC 5652, sections 3, 5.1 and 5.2; RFC 4108, section 2.1.5).
-use crate::case::{Case, plain_bench};
-use crate::octets::element;
-use crate::parts::{behind_content, item_of};
-use crate::verdict::{verdict_by, verdict_of};
+use crate::row::row;
+use judge_bench::case::{Case, plain_bench};
+use judge_bench::octets::element;
+use judge_bench::parts::{behind_content, item_of};
+use judge_bench::verdict::{verdict_by, verdict_of};
 use std::alloc::Global;
 use std::test::Fail;
 
 #[test]
 fn a_package_is_accepted(rt: HostRuntime) -> Result<(), Fail> {
     let case = Case::plain(rt.alloc()).ok_or("a package")?;
-    assert_eq!(rt; case.says(&case.item), Some(0));
-    assert_eq!(rt;
+    row(&rt, case.says(&case.item), 0);
+    row(
+        &rt,
         case.bends(b"\x02\x01\x03\x31\x0d", b"\x02\x01\x01\x31\x0d"),
-        Some(0)
+        0,
     );
-    assert_eq!(rt;
+    row(
+        &rt,
         case.bends(b"\x02\x01\x03\x31\x0d", b"\x02\x01\x04\x31\x0d"),
-        Some(0)
+        0,
     );
-    assert_eq!(rt;
+    row(
+        &rt,
         case.bends(b"\x02\x01\x03\x31\x0d", b"\x02\x01\x05\x31\x0d"),
-        Some(0)
+        0,
     );
-    assert_eq!(rt;
+    row(
+        &rt,
         case.bends(b"\x02\x01\x03\x80\x01", b"\x02\x01\x01\x80\x01"),
-        Some(0)
+        0,
     );
     Ok(())
 }
@@ -37,17 +42,18 @@ fn an_item_is_one_element(rt: HostRuntime) -> Result<(), Fail> {
     let case = Case::plain(alloc).ok_or("a package")?;
     let size = case.item.len();
     let more = [case.item.as_slice(), b"\x00".as_slice()].concat(alloc)?;
-    assert_eq!(rt; case.says(b""), Some(1));
-    assert_eq!(rt; case.says(b"\x30"), Some(1));
-    assert_eq!(rt; case.bends(b"\x30\x82", b"\x31\x82"), Some(1));
-    assert_eq!(rt;
+    row(&rt, case.says(b""), 1);
+    row(&rt, case.says(b"\x30"), 1);
+    row(&rt, case.bends(b"\x30\x82", b"\x31\x82"), 1);
+    row(
+        &rt,
         case.item
             .get(..size.wrapping_sub(1))
             .and_then(|item| case.says(item)),
-        Some(1)
+        1,
     );
-    assert_eq!(rt; case.says(&more), Some(1));
-    assert_eq!(rt; case.says(b"\x30\x00"), Some(3));
+    row(&rt, case.says(&more), 1);
+    row(&rt, case.says(b"\x30\x00"), 3);
     Ok(())
 }
 
@@ -62,9 +68,9 @@ fn of_zeros(alloc: Global, tag: u8, size: usize) -> Option<u8> {
 // The greatest item and one that is too long, which isn't signed data either, and one of another tag.
 #[test]
 fn an_item_is_not_too_long(rt: HostRuntime) {
-    assert_eq!(rt; of_zeros(rt.alloc(), 0x30, 17_825_792), Some(3));
-    assert_eq!(rt; of_zeros(rt.alloc(), 0x30, 17_825_793), Some(2));
-    assert_eq!(rt; of_zeros(rt.alloc(), 0x31, 17_825_793), Some(1));
+    row(&rt, of_zeros(rt.alloc(), 0x30, 17_825_792), 3);
+    row(&rt, of_zeros(rt.alloc(), 0x30, 17_825_793), 2);
+    row(&rt, of_zeros(rt.alloc(), 0x31, 17_825_793), 1);
 }
 
 // Another version of signed data.
@@ -76,28 +82,20 @@ const DATA: &[u8] = b"\x30\x0f\x06\x09\x2a\x86\x48\x86\xf7\x0d\x01\x07\x01\xa0\x
 #[test]
 fn an_item_is_signed_data(rt: HostRuntime) -> Result<(), Fail> {
     let case = Case::plain(rt.alloc()).ok_or("a package")?;
-    assert_eq!(rt;
-        case.bends(b"\x07\x02\xa0\x82", b"\x07\x02\xa1\x82"),
-        Some(3)
-    );
-    assert_eq!(rt;
-        case.bends(b"\x07\x02\xa0\x82", b"\x07\x01\xa1\x82"),
-        Some(3)
-    );
-    assert_eq!(rt;
-        case.bends(b"\x07\x02\xa0\x82", b"\x07\x01\xa0\x82"),
-        Some(4)
-    );
-    assert_eq!(rt; case.says(DATA), Some(4));
-    assert_eq!(rt; case.bends(VERSION.0, VERSION.1), Some(5));
-    assert_eq!(rt;
+    row(&rt, case.bends(b"\x07\x02\xa0\x82", b"\x07\x02\xa1\x82"), 3);
+    row(&rt, case.bends(b"\x07\x02\xa0\x82", b"\x07\x01\xa1\x82"), 3);
+    row(&rt, case.bends(b"\x07\x02\xa0\x82", b"\x07\x01\xa0\x82"), 4);
+    row(&rt, case.says(DATA), 4);
+    row(&rt, case.bends(VERSION.0, VERSION.1), 5);
+    row(
+        &rt,
         case.bends_both(
             b"\x07\x02\xa0\x82",
             b"\x07\x01\xa0\x82",
             VERSION.0,
-            VERSION.1
+            VERSION.1,
         ),
-        Some(4)
+        4,
     );
     Ok(())
 }
@@ -122,14 +120,15 @@ const PAST_CONTENT: &[u8] = b"\x30\x2e\x06\x09\x2a\x86\x48\x86\xf7\x0d\x01\x07\x
 #[test]
 fn a_content_has_its_form(rt: HostRuntime) -> Result<(), Fail> {
     let case = Case::plain(rt.alloc()).ok_or("a package")?;
-    assert_eq!(rt; case.says(SHORT), Some(13));
-    assert_eq!(rt; case.says(PAST), Some(5));
-    assert_eq!(rt; case.says(PAST_CONTENT), Some(6));
-    assert_eq!(rt; case.bends(b"\x04\x05hello", b"\x04\x7fhello"), Some(6));
-    assert_eq!(rt; case.bends(b"\x04\x05hello", b"\x05\x05hello"), Some(6));
-    assert_eq!(rt;
+    row(&rt, case.says(SHORT), 13);
+    row(&rt, case.says(PAST), 5);
+    row(&rt, case.says(PAST_CONTENT), 6);
+    row(&rt, case.bends(b"\x04\x05hello", b"\x04\x7fhello"), 6);
+    row(&rt, case.bends(b"\x04\x05hello", b"\x05\x05hello"), 6);
+    row(
+        &rt,
         case.bends_both(VERSION.0, VERSION.1, b"\x04\x05hello", b"\x05\x05hello"),
-        Some(5)
+        5,
     );
     Ok(())
 }
@@ -154,17 +153,19 @@ fn a_content_is_a_firmware_package(rt: HostRuntime) -> Result<(), Fail> {
     let case = Case::plain(alloc).ok_or("a package")?;
     let behind = behind_content(&case.item).ok_or("a signer")?;
     let say = |content: &[u8]| verdict_of(alloc, &case.bench, item_of(alloc, content, behind));
-    assert_eq!(rt; say(ENCRYPTED), Some(7));
-    assert_eq!(rt; say(ENCRYPTED_OTHER), Some(6));
-    assert_eq!(rt;
+    row(&rt, say(ENCRYPTED), 7);
+    row(&rt, say(ENCRYPTED_OTHER), 6);
+    row(
+        &rt,
         case.bends(b"\x10\x01\x10\xa0\x07", b"\x10\x01\x09\xa0\x07"),
-        Some(8)
+        8,
     );
-    assert_eq!(rt; say(NOT_COMPRESSED), Some(8));
-    assert_eq!(rt;
+    row(&rt, say(NOT_COMPRESSED), 8);
+    row(
+        &rt,
         case.bends(b"\x10\x01\x10\xa0\x07", b"\x10\x01\x11\xa0\x07"),
-        Some(9)
+        9,
     );
-    assert_eq!(rt; say(NO_RECEIPT), Some(9));
+    row(&rt, say(NO_RECEIPT), 9);
     Ok(())
 }

@@ -1,12 +1,13 @@
 // Packages of an anchor's key, with other names, images, needs and communities, and what is installed
 // (RFC 4108, section 2).
-use crate::case::{HELLO, plain_bench};
-use crate::installed::{needing, put_plain, put_stale};
-use crate::signer::{package, recipe};
-use crate::vector::PLAIN;
-use crate::verdict::{AT, Bench, verdict, verdict_of};
+use crate::row::row;
 use config_table::State;
 use der_core::Moment;
+use judge_bench::case::{HELLO, plain_bench};
+use judge_bench::installed::{needing, put_plain, put_stale};
+use judge_bench::signer::{package, recipe};
+use judge_bench::vector::PLAIN;
+use judge_bench::verdict::{AT, Bench, verdict, verdict_of};
 use judge_core::{Verdict, judge};
 use package_attrs::PackageName;
 use std::alloc::Global;
@@ -21,7 +22,7 @@ fn says(alloc: Global, bench: &Bench, lines: &str) -> Option<u8> {
 // Whether the item is accepted with this image.
 fn has_image(alloc: Global, bench: &Bench, item: &[u8], wanted: &[u8]) -> Option<bool> {
     let at = Moment::new(AT)?;
-    let owner = crate::verdict::owner_of(alloc, &bench.record)?;
+    let owner = judge_bench::verdict::owner_of(alloc, &bench.record)?;
     match judge(alloc, &owner, &bench.state, bench.sequence, at, item) {
         Ok(verdict) => Some(matches_image(&verdict, wanted)),
         Err(_) => None,
@@ -74,19 +75,14 @@ fn a_greater_version_is_not_stale(rt: HostRuntime) -> Result<(), Fail> {
     let mut bench = plain_bench(a).ok_or("a module")?;
     put_plain(a, &mut bench.state, 1, 4, 1).ok_or("a package")?;
     put_stale(&mut bench.state, 1, 5).ok_or("an entry")?;
-    assert_eq!(rt;
+    row(
+        &rt,
         says(a, &bench, "package 1.2.3.1 5\ntarget 1.2.3\n"),
-        Some(33)
+        33,
     );
-    assert_eq!(rt;
-        says(a, &bench, "package 1.2.3.1 6\ntarget 1.2.3\n"),
-        Some(0)
-    );
+    row(&rt, says(a, &bench, "package 1.2.3.1 6\ntarget 1.2.3\n"), 0);
     put_plain(a, &mut bench.state, 1, 6, 1).ok_or("a package")?;
-    assert_eq!(rt;
-        says(a, &bench, "package 1.2.3.1 6\ntarget 1.2.3\n"),
-        Some(0)
-    );
+    row(&rt, says(a, &bench, "package 1.2.3.1 6\ntarget 1.2.3\n"), 0);
     Ok(())
 }
 
@@ -101,9 +97,9 @@ fn needs_are_installed(rt: HostRuntime) -> Result<(), Fail> {
         Ok(lines) => says(a, &bench, &lines),
         Err(_) => None,
     };
-    assert_eq!(rt; needs("9 1\n"), Some(34));
-    assert_eq!(rt; needs("2 5\n"), Some(35));
-    assert_eq!(rt; needs("2 4\n"), Some(0));
+    row(&rt, needs("9 1\n"), 34);
+    row(&rt, needs("2 5\n"), 35);
+    row(&rt, needs("2 4\n"), 0);
     Ok(())
 }
 
@@ -114,18 +110,16 @@ fn needs_stay_met(rt: HostRuntime) -> Result<(), Fail> {
     let mut bench = plain_bench(a).ok_or("a module")?;
     put_plain(a, &mut bench.state, 2, 4, 1).ok_or("a package")?;
     needing(a, &mut bench.state, 3, (2, 4)).ok_or("a package")?;
-    assert_eq!(rt;
+    row(
+        &rt,
         says(a, &bench, "package 1.2.3.2 3\ntarget 1.2.3\n"),
-        Some(36)
+        36,
     );
-    assert_eq!(rt;
-        says(a, &bench, "package 1.2.3.2 5\ntarget 1.2.3\n"),
-        Some(0)
-    );
+    row(&rt, says(a, &bench, "package 1.2.3.2 5\ntarget 1.2.3\n"), 0);
     bench.state = State::new(a);
     put_plain(a, &mut bench.state, 1, 2, 1).ok_or("a package")?;
     let own = "package 1.2.3.1 1\ntarget 1.2.3\ndepends 1.2.3.1 2\n";
-    assert_eq!(rt; says(a, &bench, own), Some(0));
+    row(&rt, says(a, &bench, own), 0);
     Ok(())
 }
 
@@ -139,9 +133,9 @@ fn communities_hold_serial_numbers(rt: HostRuntime) -> Result<(), Fail> {
         Ok(lines) => says(a, &bench, &lines),
         Err(_) => None,
     };
-    assert_eq!(rt; block("0001 0001\n"), Some(0));
-    assert_eq!(rt; block("0002 0009\n"), Some(31));
-    assert_eq!(rt; block("00 ff\n"), Some(31));
+    row(&rt, block("0001 0001\n"), 0);
+    row(&rt, block("0002 0009\n"), 31);
+    row(&rt, block("00 ff\n"), 31);
     Ok(())
 }
 
@@ -158,12 +152,13 @@ fn images_share_the_blocks(rt: HostRuntime) -> Result<(), Fail> {
     let a = rt.alloc();
     let mut bench = plain_bench(a).ok_or("a module")?;
     let lines = "package 1.2.3.1 7\ntarget 1.2.3\nsigner a1\n";
-    assert_eq!(rt; large(a, &bench, lines), Some(0));
+    row(&rt, large(a, &bench, lines), 0);
     put_plain(a, &mut bench.state, 1, 7, 65_536).ok_or("a package")?;
-    assert_eq!(rt; large(a, &bench, lines), Some(0));
-    assert_eq!(rt;
+    row(&rt, large(a, &bench, lines), 0);
+    row(
+        &rt,
         says(a, &bench, "package 1.2.3.2 1\ntarget 1.2.3\n"),
-        Some(38)
+        38,
     );
     Ok(())
 }

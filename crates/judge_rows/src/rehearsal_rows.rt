@@ -1,9 +1,10 @@
 // What `rehearse_step` says of attribute sets (RFC 5652, section 5.3; RFC 4108, section 2.2).
-use crate::octets::{element, element_of};
+use crate::row::row;
 use attribute_set::read_attribute_set;
 use config_table::{BlockNumbers, State};
 use der_core::{Octets64, Oid, read_oid};
 use der_write::sorted_contents;
+use judge_bench::octets::{element, element_of};
 use judge_core::{Rehearsed, rehearse_step};
 use package_attrs::{Package, PackageName};
 use package_rules::HardwareModule;
@@ -185,12 +186,12 @@ fn packages_are_rehearsed(rt: HostRuntime) -> Result<(), Fail> {
         hardware: 4,
         ..plain(1, 7)
     };
-    assert_eq!(rt; so_far.takes(&plain(1, 7)), Some(0));
-    assert_eq!(rt; so_far.takes(&plain(1, 7)), Some(0));
-    assert_eq!(rt; so_far.takes(&other), Some(30));
-    assert_eq!(rt; so_far.takes(&with_need(1, 7, (9, 1))), Some(34));
+    row(&rt, so_far.takes(&plain(1, 7)), 0);
+    row(&rt, so_far.takes(&plain(1, 7)), 0);
+    row(&rt, so_far.takes(&other), 30);
+    row(&rt, so_far.takes(&with_need(1, 7, (9, 1))), 34);
     assert_eq!(rt; (so_far.state.packages(), so_far.at(0)), (1, Some((1, 7))));
-    assert_eq!(rt; so_far.takes_set(b""), Some(19));
+    row(&rt, so_far.takes_set(b""), 19);
     Ok(())
 }
 
@@ -198,9 +199,9 @@ fn packages_are_rehearsed(rt: HostRuntime) -> Result<(), Fail> {
 #[test]
 fn stale_versions_are_rehearsed(rt: HostRuntime) -> Result<(), Fail> {
     let mut so_far = Rehearsal::new(rt.alloc()).ok_or("a module")?;
-    assert_eq!(rt; so_far.takes(&stale(7, 9)), Some(0));
-    assert_eq!(rt; so_far.takes(&stale(9, 3)), Some(33));
-    assert_eq!(rt; so_far.takes(&stale(10, 3)), Some(0));
+    row(&rt, so_far.takes(&stale(7, 9)), 0);
+    row(&rt, so_far.takes(&stale(9, 3)), 33);
+    row(&rt, so_far.takes(&stale(10, 3)), 0);
     assert_eq!(rt; (so_far.state.packages(), so_far.at(0)), (1, Some((1, 10))));
     assert_eq!(rt; so_far.state.stale_entries(), 1);
     Ok(())
@@ -211,15 +212,15 @@ fn stale_versions_are_rehearsed(rt: HostRuntime) -> Result<(), Fail> {
 #[test]
 fn needs_are_rehearsed(rt: HostRuntime) -> Result<(), Fail> {
     let mut so_far = Rehearsal::new(rt.alloc()).ok_or("a module")?;
-    assert_eq!(rt; so_far.takes(&plain(2, 4)), Some(0));
-    assert_eq!(rt; so_far.takes(&with_need(3, 1, (2, 4))), Some(0));
-    assert_eq!(rt; so_far.takes(&plain(2, 3)), Some(36));
-    assert_eq!(rt; so_far.takes(&plain(2, 5)), Some(0));
+    row(&rt, so_far.takes(&plain(2, 4)), 0);
+    row(&rt, so_far.takes(&with_need(3, 1, (2, 4))), 0);
+    row(&rt, so_far.takes(&plain(2, 3)), 36);
+    row(&rt, so_far.takes(&plain(2, 5)), 0);
     assert_eq!(rt; (so_far.at(0), so_far.at(1)), (Some((2, 5)), Some((3, 1))));
     let mut so_far = Rehearsal::new(rt.alloc()).ok_or("a module")?;
-    assert_eq!(rt; so_far.takes(&plain(1, 2)), Some(0));
-    assert_eq!(rt; so_far.takes(&with_need(1, 1, (1, 2))), Some(0));
-    assert_eq!(rt; so_far.takes(&plain(4, 1)), Some(0));
+    row(&rt, so_far.takes(&plain(1, 2)), 0);
+    row(&rt, so_far.takes(&with_need(1, 1, (1, 2))), 0);
+    row(&rt, so_far.takes(&plain(4, 1)), 0);
     assert_eq!(rt; (so_far.at(0), so_far.at(1)), (Some((1, 1)), Some((4, 1))));
     Ok(())
 }

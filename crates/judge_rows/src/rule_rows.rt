@@ -1,10 +1,11 @@
 // The conditions 30 to 41, in the same way: the rules of a module over what it has installed (RFC 4108,
 // section 2.2, and this project's own).
-use crate::case::{Case, plain_bench};
-use crate::installed::{fill, needing, put_plain, put_stale, put_stales};
-use crate::module::{LISTED, record};
-use crate::octets::bent;
-use crate::signer::package;
+use crate::row::row;
+use judge_bench::case::{Case, plain_bench};
+use judge_bench::installed::{fill, needing, put_plain, put_stale, put_stales};
+use judge_bench::module::{LISTED, record};
+use judge_bench::octets::bent;
+use judge_bench::signer::package;
 use std::alloc::Global;
 use std::test::Fail;
 
@@ -36,7 +37,7 @@ fn under(case: &Case, from: &[u8], to: &[u8]) -> Option<u8> {
     let record = bent(case.alloc, &case.bench.record, from, to)?;
     let whole = Case {
         alloc: case.alloc,
-        bench: crate::verdict::Bench {
+        bench: judge_bench::verdict::Bench {
             record,
             state: case.bench.state.copy().ok()?,
             sequence: case.bench.sequence,
@@ -64,15 +65,15 @@ const KIND: (&[u8], &[u8]) = (b"\x30\x03\x02\x01\x01", b"\x30\x03\x02\x01\x02");
 #[test]
 fn each_rule_is_asked(rt: HostRuntime) -> Result<(), Fail> {
     let mut case = fitting(rt.alloc(), ASKING).ok_or("a package")?;
-    assert_eq!(rt; case.says(&case.item), Some(0));
-    assert_eq!(rt; under(&case, HARDWARE.0, HARDWARE.1), Some(30));
-    assert_eq!(rt; under(&case, COMMUNITY.0, COMMUNITY.1), Some(31));
-    assert_eq!(rt; under(&case, KIND.0, KIND.1), Some(32));
+    row(&rt, case.says(&case.item), 0);
+    row(&rt, under(&case, HARDWARE.0, HARDWARE.1), 30);
+    row(&rt, under(&case, COMMUNITY.0, COMMUNITY.1), 31);
+    row(&rt, under(&case, KIND.0, KIND.1), 32);
     put_plain(rt.alloc(), &mut case.bench.state, 9, 0, 1).ok_or("a package")?;
-    assert_eq!(rt; case.says(&case.item), Some(35));
+    row(&rt, case.says(&case.item), 35);
     case.bench.state = config_table::State::new(rt.alloc());
     put_plain(rt.alloc(), &mut case.bench.state, 9, 1, 1).ok_or("a package")?;
-    assert_eq!(rt; case.says(&case.item), Some(34));
+    row(&rt, case.says(&case.item), 34);
     Ok(())
 }
 
@@ -81,9 +82,9 @@ fn each_rule_is_asked(rt: HostRuntime) -> Result<(), Fail> {
 fn a_stale_version_is_refused(rt: HostRuntime) -> Result<(), Fail> {
     let mut case = fitting(rt.alloc(), ASKING).ok_or("a package")?;
     put_stale(&mut case.bench.state, 1, 6).ok_or("an entry")?;
-    assert_eq!(rt; case.says(&case.item), Some(0));
+    row(&rt, case.says(&case.item), 0);
     put_stale(&mut case.bench.state, 1, 7).ok_or("an entry")?;
-    assert_eq!(rt; case.says(&case.item), Some(33));
+    row(&rt, case.says(&case.item), 33);
     Ok(())
 }
 
@@ -92,9 +93,9 @@ fn a_stale_version_is_refused(rt: HostRuntime) -> Result<(), Fail> {
 fn a_need_is_not_broken(rt: HostRuntime) -> Result<(), Fail> {
     let mut case = fitting(rt.alloc(), ASKING).ok_or("a package")?;
     put_plain(rt.alloc(), &mut case.bench.state, 1, 8, 1).ok_or("a package")?;
-    assert_eq!(rt; case.says(&case.item), Some(0));
+    row(&rt, case.says(&case.item), 0);
     needing(rt.alloc(), &mut case.bench.state, 3, (1, 8)).ok_or("a package")?;
-    assert_eq!(rt; case.says(&case.item), Some(36));
+    row(&rt, case.says(&case.item), 36);
     Ok(())
 }
 
@@ -102,15 +103,15 @@ fn a_need_is_not_broken(rt: HostRuntime) -> Result<(), Fail> {
 #[test]
 fn an_image_has_room(rt: HostRuntime) -> Result<(), Fail> {
     let mut case = fitting(rt.alloc(), EMPTY).ok_or("a package")?;
-    assert_eq!(rt; case.says(&case.item), Some(37));
+    row(&rt, case.says(&case.item), 37);
     let mut case = fitting(rt.alloc(), ASKING).ok_or("a package")?;
     put_plain(rt.alloc(), &mut case.bench.state, 9, 1, 125 * 4096).ok_or("a package")?;
-    assert_eq!(rt; case.says(&case.item), Some(0));
+    row(&rt, case.says(&case.item), 0);
     put_plain(rt.alloc(), &mut case.bench.state, 9, 1, 125 * 4096 + 1).ok_or("a package")?;
-    assert_eq!(rt; case.says(&case.item), Some(38));
+    row(&rt, case.says(&case.item), 38);
     put_plain(rt.alloc(), &mut case.bench.state, 9, 1, 125 * 4096).ok_or("a package")?;
     put_plain(rt.alloc(), &mut case.bench.state, 1, 6, 4096).ok_or("a package")?;
-    assert_eq!(rt; case.says(&case.item), Some(0));
+    row(&rt, case.says(&case.item), 0);
     Ok(())
 }
 
@@ -119,18 +120,18 @@ fn an_image_has_room(rt: HostRuntime) -> Result<(), Fail> {
 fn tables_have_room(rt: HostRuntime) -> Result<(), Fail> {
     let mut case = fitting(rt.alloc(), ASKING).ok_or("a package")?;
     fill(rt.alloc(), &mut case.bench.state, 61).ok_or("packages")?;
-    assert_eq!(rt; case.says(&case.item), Some(0));
+    row(&rt, case.says(&case.item), 0);
     fill(rt.alloc(), &mut case.bench.state, 62).ok_or("packages")?;
-    assert_eq!(rt; case.says(&case.item), Some(39));
+    row(&rt, case.says(&case.item), 39);
     let mut case = fitting(rt.alloc(), ASKING).ok_or("a package")?;
     put_stales(&mut case.bench.state, 255).ok_or("entries")?;
     case.bench.sequence = u64::MAX - 1;
-    assert_eq!(rt; case.says(&case.item), Some(0));
+    row(&rt, case.says(&case.item), 0);
     case.bench.sequence = u64::MAX;
-    assert_eq!(rt; case.says(&case.item), Some(41));
+    row(&rt, case.says(&case.item), 41);
     case.bench.sequence = 0;
     put_stales(&mut case.bench.state, 256).ok_or("entries")?;
-    assert_eq!(rt; case.says(&case.item), Some(40));
+    row(&rt, case.says(&case.item), 40);
     Ok(())
 }
 
@@ -140,20 +141,20 @@ fn the_first_rule_on_room_is_told(rt: HostRuntime) -> Result<(), Fail> {
     let alloc = rt.alloc();
     let mut case = fitting(alloc, ASKING).ok_or("a package")?;
     case.bench.sequence = u64::MAX;
-    assert_eq!(rt; case.says(&case.item), Some(41));
+    row(&rt, case.says(&case.item), 41);
     put_stales(&mut case.bench.state, 256).ok_or("entries")?;
-    assert_eq!(rt; case.says(&case.item), Some(40));
+    row(&rt, case.says(&case.item), 40);
     fill(alloc, &mut case.bench.state, 62).ok_or("packages")?;
-    assert_eq!(rt; case.says(&case.item), Some(39));
+    row(&rt, case.says(&case.item), 39);
     put_plain(alloc, &mut case.bench.state, 9, 1, 127 * 4096).ok_or("a package")?;
-    assert_eq!(rt; case.says(&case.item), Some(38));
+    row(&rt, case.says(&case.item), 38);
     case.item = package(alloc, 1, EMPTY, &[]).ok_or("a package")?;
-    assert_eq!(rt; case.says(&case.item), Some(37));
+    row(&rt, case.says(&case.item), 37);
     put_plain(alloc, &mut case.bench.state, 1, 8, 1).ok_or("a package")?;
     needing(alloc, &mut case.bench.state, 3, (1, 8)).ok_or("a package")?;
-    assert_eq!(rt; case.says(&case.item), Some(36));
+    row(&rt, case.says(&case.item), 36);
     put_plain(alloc, &mut case.bench.state, 9, 0, 1).ok_or("a package")?;
-    assert_eq!(rt; case.says(&case.item), Some(35));
+    row(&rt, case.says(&case.item), 35);
     Ok(())
 }
 
@@ -165,16 +166,16 @@ fn the_first_rule_on_packages_is_told(rt: HostRuntime) -> Result<(), Fail> {
     put_plain(alloc, &mut case.bench.state, 1, 8, 1).ok_or("a package")?;
     needing(alloc, &mut case.bench.state, 3, (1, 8)).ok_or("a package")?;
     put_plain(alloc, &mut case.bench.state, 9, 0, 1).ok_or("a package")?;
-    assert_eq!(rt; case.says(&case.item), Some(34));
+    row(&rt, case.says(&case.item), 34);
     put_stale(&mut case.bench.state, 1, 7).ok_or("an entry")?;
-    assert_eq!(rt; case.says(&case.item), Some(33));
-    assert_eq!(rt; turns(&mut case, KIND.0, KIND.1), Some(32));
-    assert_eq!(rt; turns(&mut case, COMMUNITY.0, COMMUNITY.1), Some(31));
-    assert_eq!(rt; turns(&mut case, HARDWARE.0, HARDWARE.1), Some(30));
+    row(&rt, case.says(&case.item), 33);
+    row(&rt, turns(&mut case, KIND.0, KIND.1), 32);
+    row(&rt, turns(&mut case, COMMUNITY.0, COMMUNITY.1), 31);
+    row(&rt, turns(&mut case, HARDWARE.0, HARDWARE.1), 30);
     let bent_leaf = case.bends(
         b"\x04\x82\x09\x30\x00\x00\x00\x00\x00\x00\x00\x00",
         b"\x04\x82\x09\x30\x00\x00\x00\x00\x00\x00\x00\x01",
     );
-    assert_eq!(rt; bent_leaf, Some(29));
+    row(&rt, bent_leaf, 29);
     Ok(())
 }

@@ -1,12 +1,13 @@
 // The conditions 10 to 19, in the same way: what stands behind the content, the signer, and the attributes
 // (RFC 5652, sections 5.1 to 5.4; RFC 4108, section 2.2).
-use crate::case::Case;
-use crate::octets::{bent, element};
-use crate::parts::{
+use crate::row::row;
+use judge_bench::case::Case;
+use judge_bench::octets::{bent, element};
+use judge_bench::parts::{
     CONTENT, HSS_LMS, NO_SIGNER, SHA_256, SIGNER, attributes, behind_content, item_of, signature,
     signers,
 };
-use crate::verdict::verdict_of;
+use judge_bench::verdict::verdict_of;
 use std::alloc::Global;
 use std::test::Fail;
 
@@ -34,19 +35,18 @@ fn with_zeros(case: &Case, content: &[u8], tag: u8, front: &[u8], total: usize) 
 #[test]
 fn octets_behind_the_content_are_few(rt: HostRuntime) -> Result<(), Fail> {
     let case = Case::plain(rt.alloc()).ok_or("a package")?;
-    assert_eq!(rt; with_zeros(&case, CONTENT, 0xa1, b"", 1_048_576), Some(0));
-    assert_eq!(rt; with_zeros(&case, CONTENT, 0xa1, b"", 1_048_577), Some(11));
-    assert_eq!(rt;
-        with_zeros(&case, NO_CONTENT, 0xa1, b"", 1_048_577),
-        Some(10)
-    );
-    assert_eq!(rt;
+    row(&rt, with_zeros(&case, CONTENT, 0xa1, b"", 1_048_576), 0);
+    row(&rt, with_zeros(&case, CONTENT, 0xa1, b"", 1_048_577), 11);
+    row(&rt, with_zeros(&case, NO_CONTENT, 0xa1, b"", 1_048_577), 10);
+    row(
+        &rt,
         with_zeros(&case, CONTENT, 0xa0, b"\x30\x00", 1_048_576),
-        Some(12)
+        12,
     );
-    assert_eq!(rt;
+    row(
+        &rt,
         with_zeros(&case, CONTENT, 0xa0, b"\x30\x00", 1_048_577),
-        Some(11)
+        11,
     );
     Ok(())
 }
@@ -78,12 +78,12 @@ fn certificates_are_such(rt: HostRuntime) -> Result<(), Fail> {
     let case = Case::plain(rt.alloc()).ok_or("a package")?;
     let signers = behind_content(&case.item).ok_or("a signer")?;
     let bare = item_of(case.alloc, NO_CONTENT, signers);
-    assert_eq!(rt; verdict_of(case.alloc, &case.bench, bare), Some(10));
-    assert_eq!(rt; with_behind(&case, b"\xa0\x02\x30\x00"), Some(12));
-    assert_eq!(rt; with_behind(&case, b"\xa0\x01\x30"), Some(12));
-    assert_eq!(rt; with_behind(&case, b"\xa0\x02\xa1\x00"), Some(0));
-    assert_eq!(rt; with_behind(&case, b"\xa0\x00\xa1\x00"), Some(0));
-    assert_eq!(rt; behind(&case, b"\xa0\x02\x30\x00\x31\x00"), Some(12));
+    row(&rt, verdict_of(case.alloc, &case.bench, bare), 10);
+    row(&rt, with_behind(&case, b"\xa0\x02\x30\x00"), 12);
+    row(&rt, with_behind(&case, b"\xa0\x01\x30"), 12);
+    row(&rt, with_behind(&case, b"\xa0\x02\xa1\x00"), 0);
+    row(&rt, with_behind(&case, b"\xa0\x00\xa1\x00"), 0);
+    row(&rt, behind(&case, b"\xa0\x02\x30\x00\x31\x00"), 12);
     Ok(())
 }
 
@@ -91,13 +91,14 @@ fn certificates_are_such(rt: HostRuntime) -> Result<(), Fail> {
 #[test]
 fn there_is_one_signer(rt: HostRuntime) -> Result<(), Fail> {
     let case = Case::plain(rt.alloc()).ok_or("a package")?;
-    assert_eq!(rt; behind(&case, NO_SIGNER), Some(13));
-    assert_eq!(rt; behind(&case, b"\x31\x02\x31\x00"), Some(13));
-    assert_eq!(rt; behind(&case, b"\x31\x04\x30\x00\x30\x00"), Some(13));
-    assert_eq!(rt; behind(&case, b"\x31\x02\x30\x00"), Some(14));
-    assert_eq!(rt;
+    row(&rt, behind(&case, NO_SIGNER), 13);
+    row(&rt, behind(&case, b"\x31\x02\x31\x00"), 13);
+    row(&rt, behind(&case, b"\x31\x04\x30\x00\x30\x00"), 13);
+    row(&rt, behind(&case, b"\x31\x02\x30\x00"), 14);
+    row(
+        &rt,
         case.bends(b"\x02\x01\x03\x80\x01", b"\x02\x01\x02\x80\x01"),
-        Some(14)
+        14,
     );
     Ok(())
 }
@@ -148,29 +149,35 @@ fn unsigned_attributes_are_attributes(rt: HostRuntime) -> Result<(), Fail> {
     let case = Case::plain(rt.alloc()).ok_or("a package")?;
     let signed = attributes(&case.item).ok_or("attributes")?;
     let nothing = b"".as_slice();
-    assert_eq!(rt;
+    row(
+        &rt,
         of_signer(&case, SIGNER, SHA_256, signed, HSS_LMS, b""),
-        Some(0)
+        0,
     );
-    assert_eq!(rt;
+    row(
+        &rt,
         of_signer(&case, SIGNER, SHA_256, signed, HSS_LMS, UNSIGNED),
-        Some(0)
+        0,
     );
-    assert_eq!(rt;
+    row(
+        &rt,
         of_signer(&case, SIGNER, SHA_256, signed, HSS_LMS, b"\xa1\x00"),
-        Some(0)
+        0,
     );
-    assert_eq!(rt;
+    row(
+        &rt,
         of_signer(&case, SIGNER, SHA_256, signed, HSS_LMS, NONE),
-        Some(15)
+        15,
     );
-    assert_eq!(rt;
+    row(
+        &rt,
         of_signer(&case, VERSION_2, SHA_256, signed, HSS_LMS, NONE),
-        Some(14)
+        14,
     );
-    assert_eq!(rt;
+    row(
+        &rt,
         of_signer(&case, SIGNER, SHA_256, nothing, HSS_LMS, NONE),
-        Some(15)
+        15,
     );
     Ok(())
 }
@@ -182,45 +189,55 @@ fn algorithms_are_these(rt: HostRuntime) -> Result<(), Fail> {
     let case = Case::plain(rt.alloc()).ok_or("a package")?;
     let signed = attributes(&case.item).ok_or("attributes")?;
     let empty = b"\xa0\x00".as_slice();
-    assert_eq!(rt;
+    row(
+        &rt,
         of_signer(&case, SIGNER, SHA_256, b"", HSS_LMS, b""),
-        Some(16)
+        16,
     );
-    assert_eq!(rt;
+    row(
+        &rt,
         of_signer(&case, SIGNER, SHA_384, b"", HSS_LMS, b""),
-        Some(16)
+        16,
     );
-    assert_eq!(rt;
+    row(
+        &rt,
         of_signer(&case, SIGNER, SHA_384, signed, HSS_LMS, b""),
-        Some(17)
+        17,
     );
-    assert_eq!(rt;
+    row(
+        &rt,
         of_signer(&case, SIGNER, SHA_256_MORE, signed, HSS_LMS, b""),
-        Some(17)
+        17,
     );
-    assert_eq!(rt;
+    row(
+        &rt,
         of_signer(&case, SIGNER, SHA_256_NULL, signed, HSS_LMS, b""),
-        Some(0)
+        0,
     );
-    assert_eq!(rt;
+    row(
+        &rt,
         of_signer(&case, SIGNER, SHA_384, signed, SHA_256, b""),
-        Some(17)
+        17,
     );
-    assert_eq!(rt;
+    row(
+        &rt,
         of_signer(&case, SIGNER, SHA_256, signed, SHA_256, b""),
-        Some(18)
+        18,
     );
-    assert_eq!(rt;
+    row(
+        &rt,
         of_signer(&case, SIGNER, SHA_256, signed, HSS_LMS_NULL, b""),
-        Some(18)
+        18,
     );
-    assert_eq!(rt;
+    row(
+        &rt,
         of_signer(&case, SIGNER, SHA_256, empty, SHA_256, b""),
-        Some(18)
+        18,
     );
-    assert_eq!(rt;
+    row(
+        &rt,
         of_signer(&case, SIGNER, SHA_256, empty, HSS_LMS, b""),
-        Some(19)
+        19,
     );
     Ok(())
 }
@@ -242,12 +259,13 @@ const DIGEST: (&[u8], &[u8]) = (
 #[test]
 fn signed_attributes_are_a_set(rt: HostRuntime) -> Result<(), Fail> {
     let case = Case::plain(rt.alloc()).ok_or("a package")?;
-    assert_eq!(rt; case.bends(TARGETS, PACKAGE_ID), Some(16));
-    assert_eq!(rt;
+    row(&rt, case.bends(TARGETS, PACKAGE_ID), 16);
+    row(
+        &rt,
         case.bends_both(TARGETS, PACKAGE_ID, DIGEST.0, DIGEST.1),
-        Some(16)
+        16,
     );
-    assert_eq!(rt; case.bends(DIGEST.0, DIGEST.1), Some(17));
+    row(&rt, case.bends(DIGEST.0, DIGEST.1), 17);
     Ok(())
 }
 
@@ -255,7 +273,7 @@ fn signed_attributes_are_a_set(rt: HostRuntime) -> Result<(), Fail> {
 fn with_attribute(case: &Case, front: &[u8], behind: &[u8]) -> Option<u8> {
     let mut parts = der_core::Cursor::new(attributes(&case.item)?);
     let contents = parts.tagged(0xa0)?;
-    let signed = crate::octets::element_of(case.alloc, 0xa0, &[front, contents, behind])?;
+    let signed = judge_bench::octets::element_of(case.alloc, 0xa0, &[front, contents, behind])?;
     of_signer(case, SIGNER, SHA_256, &signed, HSS_LMS, b"")
 }
 
@@ -266,10 +284,10 @@ fn signed_attributes_ascend(rt: HostRuntime) -> Result<(), Fail> {
     let case = Case::plain(rt.alloc()).ok_or("a package")?;
     let other = b"\x30\x05\x06\x01\x2b\x31\x00".as_slice();
     let time = b"\x30\x0f\x06\x09\x2a\x86\x48\x86\xf7\x0d\x01\x09\x05\x31\x02\x05\x00";
-    assert_eq!(rt; with_attribute(&case, other, b""), Some(29));
-    assert_eq!(rt; with_attribute(&case, b"", other), Some(16));
-    assert_eq!(rt; with_attribute(&case, b"\x05\x00", b""), Some(16));
-    assert_eq!(rt; with_attribute(&case, time, b""), Some(19));
+    row(&rt, with_attribute(&case, other, b""), 29);
+    row(&rt, with_attribute(&case, b"", other), 16);
+    row(&rt, with_attribute(&case, b"\x05\x00", b""), 16);
+    row(&rt, with_attribute(&case, time, b""), 19);
     Ok(())
 }
 
@@ -282,32 +300,34 @@ const ALGORITHM: (&[u8], &[u8]) = (b"\x10\x03\x11\x04\x82", b"\x10\x03\x12\x04\x
 #[test]
 fn signed_attributes_describe_a_package(rt: HostRuntime) -> Result<(), Fail> {
     let case = Case::plain(rt.alloc()).ok_or("a package")?;
-    assert_eq!(rt; case.bends(PACKAGE_ID, OTHER), Some(19));
-    assert_eq!(rt; case.bends(TARGETS, OTHER), Some(19));
-    assert_eq!(rt;
+    row(&rt, case.bends(PACKAGE_ID, OTHER), 19);
+    row(&rt, case.bends(TARGETS, OTHER), 19);
+    row(
+        &rt,
         case.bends(b"\x01\x09\x03\x31", b"\x01\x09\x07\x31"),
-        Some(19)
+        19,
     );
-    assert_eq!(rt;
+    row(
+        &rt,
         case.bends(b"\x01\x09\x04\x31", b"\x01\x09\x06\x31"),
-        Some(19)
+        19,
     );
-    assert_eq!(rt;
+    row(
+        &rt,
         case.bends(b"\x31\x22\x04\x20", b"\x31\x22\x05\x20"),
-        Some(19)
+        19,
     );
-    assert_eq!(rt;
+    row(
+        &rt,
         case.bends(b"\x2a\x03\x01\x02\x01\x07", b"\x2a\x03\x01\x02\x01\x87"),
-        Some(19)
+        19,
     );
-    assert_eq!(rt;
-        case.bends_both(PACKAGE_ID, OTHER, KIND.0, KIND.1),
-        Some(19)
-    );
-    assert_eq!(rt;
+    row(&rt, case.bends_both(PACKAGE_ID, OTHER, KIND.0, KIND.1), 19);
+    row(
+        &rt,
         case.bends_both(PACKAGE_ID, OTHER, ALGORITHM.0, ALGORITHM.1),
-        Some(18)
+        18,
     );
-    assert_eq!(rt; case.bends(ALGORITHM.0, ALGORITHM.1), Some(18));
+    row(&rt, case.bends(ALGORITHM.0, ALGORITHM.1), 18);
     Ok(())
 }

@@ -1,10 +1,11 @@
 // Longer paths (RFC 5280, section 6.1), and signatures of two levels (RFC 8554, section 6).
-use crate::case::{Case, plain_bench};
-use crate::module::{LISTS, record_of};
-use crate::octets::{bent, element};
-use crate::parts::{CONTENT, HSS_LMS, SHA_256, SIGNER, attributes, item_of, signers};
-use crate::signer::{certificate, package, public_octets, signature_of};
-use crate::verdict::verdict_of;
+use crate::row::row;
+use judge_bench::case::{Case, plain_bench};
+use judge_bench::module::{LISTS, record_of};
+use judge_bench::octets::{bent, element};
+use judge_bench::parts::{CONTENT, HSS_LMS, SHA_256, SIGNER, attributes, item_of, signers};
+use judge_bench::signer::{certificate, package, public_octets, signature_of};
+use judge_bench::verdict::verdict_of;
 use std::alloc::Global;
 use std::test::Fail;
 
@@ -65,12 +66,12 @@ fn under_another(alloc: Global) -> Option<u8> {
 // A certificate that is issued by itself isn't counted, and the signer's isn't.
 #[test]
 fn a_new_key_is_not_counted(rt: HostRuntime) {
-    assert_eq!(rt; under_new_key(rt.alloc()), Some(0));
+    row(&rt, under_new_key(rt.alloc()), 0);
 }
 
 #[test]
 fn another_authority_is_counted(rt: HostRuntime) {
-    assert_eq!(rt; under_another(rt.alloc()), Some(25));
+    row(&rt, under_another(rt.alloc()), 25);
 }
 
 // The octets behind the count of levels.
@@ -128,12 +129,12 @@ fn each_level_is_verified(rt: HostRuntime) -> Result<(), Fail> {
     let alloc = rt.alloc();
     let mut case = Case::plain(alloc).ok_or("a package")?;
     two_levels(&mut case).ok_or("a record")?;
-    assert_eq!(rt; case.says(&case.item), Some(29));
+    row(&rt, case.says(&case.item), 29);
     let upper = upper_signature(alloc).ok_or("a signature")?;
     case.item = signed_twice(&case, &upper).ok_or("a package")?;
-    assert_eq!(rt; case.says(&case.item), Some(0));
+    row(&rt, case.says(&case.item), 0);
     let randomizer = upper.get(12..44).ok_or("a randomizer")?;
     let item = bent(alloc, &case.item, randomizer, &[0; 32]).ok_or("a package")?;
-    assert_eq!(rt; case.says(&item), Some(29));
+    row(&rt, case.says(&item), 29);
     Ok(())
 }

@@ -1,4 +1,4 @@
-use Rattle.judge_rows.proofs.verdict.owner_of.Goals as goal
+use Rattle.judge_bench.proofs.verdict.owner_of.Goals as goal
 
 pub returns-in-Ok-Some : goal.returns-in-Ok-Some
 returns-in-Ok-Some c =

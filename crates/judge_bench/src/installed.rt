@@ -39,8 +39,8 @@ fn put(
     state.replace(installed).ok()
 }
 
-// A package 1.2.3 and an octet, without needs.
-pub(crate) fn put_plain(
+/// A package 1.2.3 and an octet, without needs.
+pub fn put_plain(
     alloc: Global,
     state: &mut State,
     octet: u8,
@@ -51,8 +51,8 @@ pub(crate) fn put_plain(
     put(alloc, state, name, length, Names::new(Vec::new(alloc)))
 }
 
-// One of an octet that needs another of this octet in this version.
-pub(crate) fn needing(alloc: Global, state: &mut State, octet: u8, need: (u8, u128)) -> Option<()> {
+/// One of an octet that needs another of this octet in this version.
+pub fn needing(alloc: Global, state: &mut State, octet: u8, need: (u8, u128)) -> Option<()> {
     let name = preferred(octet, 1)?;
     let needed = preferred(need.0, need.1)?;
     match [needed].as_slice().to_vec(alloc) {
@@ -61,8 +61,8 @@ pub(crate) fn needing(alloc: Global, state: &mut State, octet: u8, need: (u8, u1
     }
 }
 
-// Packages of so many legacy names, each of one block.
-pub(crate) fn fill(alloc: Global, state: &mut State, count: u8) -> Option<()> {
+/// Packages of so many legacy names, each of one block.
+pub fn fill(alloc: Global, state: &mut State, count: u8) -> Option<()> {
     for octet in 0..count {
         let name = PackageName::Legacy(legacy(octet)?);
         put(alloc, state, name, 1, Names::new(Vec::new(alloc)))?;
@@ -70,14 +70,14 @@ pub(crate) fn fill(alloc: Global, state: &mut State, count: u8) -> Option<()> {
     Some(())
 }
 
-// 1.2.3 and the octet is stale up to a version.
-pub(crate) fn put_stale(state: &mut State, octet: u8, upto: u128) -> Option<()> {
+/// 1.2.3 and the octet is stale up to a version.
+pub fn put_stale(state: &mut State, octet: u8, upto: u128) -> Option<()> {
     let id = identifier(octet)?;
     state.take_stale(StaleEntry::Preferred { id, upto }).ok()
 }
 
-// So many legacy names are stale.
-pub(crate) fn put_stales(state: &mut State, count: u16) -> Option<()> {
+/// So many legacy names are stale.
+pub fn put_stales(state: &mut State, count: u16) -> Option<()> {
     for octet in 0..count {
         let name = legacy((octet % 256) as u8)?;
         state.take_stale(StaleEntry::Legacy(name)).ok()?;

@@ -13,12 +13,11 @@ use std::alloc::Global;
 // The most octets of a recipe.
 const MOST: usize = 1 << 20;
 
-// The lines of a certificate under the anchor, and of a signer's under that.
-pub(crate) const CA: &str =
-    "serial 02\nissuer root\nsubject ca\nfrom 20200101000000\nto 20301231235959\n\
+/// The lines of a certificate under the anchor, and of a signer's under that.
+pub const CA: &str = "serial 02\nissuer root\nsubject ca\nfrom 20200101000000\nto 20301231235959\n\
     subjectkey b2\nauthoritykey a1\nca -\nusage certsign\n";
 
-pub(crate) const SIGNER: &str =
+pub const SIGNER: &str =
     "serial 03\nissuer ca\nsubject signer\nfrom 20200101000000\nto 20401231235959\n\
     subjectkey b3\nauthoritykey b2\nusage sign\n";
 
@@ -50,8 +49,8 @@ const PUBLIC_KEYS: [&str; 5] = [
     90c565627fd6ce3cb537d5b31aeef208b218484b10ea20d61caa1e65e56a5298",
 ];
 
-// The public key of an octet, as it stands in a certificate.
-pub(crate) fn public_octets(alloc: Global, octet: u8) -> Option<Vec<u8>> {
+/// The public key of an octet, as it stands in a certificate.
+pub fn public_octets(alloc: Global, octet: u8) -> Option<Vec<u8>> {
     let text = *PUBLIC_KEYS.get(usize::from(octet).checked_sub(1)?)?;
     hex::decode(alloc, text.as_bytes()).ok()
 }
@@ -66,8 +65,8 @@ fn first_leaf(alloc: Global) -> Option<Leaf>
     }
 }
 
-// A recipe of these lines, and then one of this word and these octets.
-pub(crate) fn recipe(alloc: Global, lines: &str, word: &str, octets: &[u8]) -> Option<String> {
+/// A recipe of these lines, and then one of this word and these octets.
+pub fn recipe(alloc: Global, lines: &str, word: &str, octets: &[u8]) -> Option<String> {
     match hex::encode(alloc, octets) {
         Ok(digits) => [lines, word, " ", digits.as_str(), "\n"].concat(alloc).ok(),
         Err(_) => None,
@@ -96,8 +95,8 @@ fn unsigned_certificate(
     }
 }
 
-// The certificate, signed.
-pub(crate) fn certificate(
+/// The certificate, signed.
+pub fn certificate(
     alloc: Global,
     above: u8,
     of: u8,
@@ -138,26 +137,16 @@ fn unsigned_package(
     }
 }
 
-// The package, signed.
-pub(crate) fn package(
-    alloc: Global,
-    signer: u8,
-    lines: &str,
-    certificates: &[&[u8]],
-) -> Option<Vec<u8>> {
+/// The package, signed.
+pub fn package(alloc: Global, signer: u8, lines: &str, certificates: &[&[u8]]) -> Option<Vec<u8>> {
     let leaf = first_leaf(alloc)?;
     let key = key(signer);
     let unsigned = unsigned_package(alloc, &key, lines, certificates)?;
     Some(finish(unsigned, &key, leaf))
 }
 
-// The signature of a key over two parts of a message.
-pub(crate) fn signature_of(
-    alloc: Global,
-    signer: u8,
-    first: &[u8],
-    rest: &[u8],
-) -> Option<Vec<u8>> {
+/// The signature of a key over two parts of a message.
+pub fn signature_of(alloc: Global, signer: u8, first: &[u8], rest: &[u8]) -> Option<Vec<u8>> {
     let leaf = first_leaf(alloc)?;
     let key = key(signer);
     let mut octets = vec![in alloc; 0u8; signature_size(&key)].ok()?;

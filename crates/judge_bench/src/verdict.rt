@@ -13,20 +13,20 @@ use package_attrs::{PackageName, image_of};
 use sha2::{Digest, Sha256};
 use std::alloc::Global;
 
-// A moment in all validities.
-pub(crate) const AT: u64 = 20_250_101_000_000;
+/// A moment in all validities.
+pub const AT: u64 = 20_250_101_000_000;
 
 // How many octets a piece has.
 const PIECE: usize = 61;
 
-// What an item is judged by: a module's record, what it has installed, its sequence number, and the
-// moment.
+/// What an item is judged by: a module's record, what it has installed, its sequence number, and the
+/// moment.
 #[derive(Drop)]
-pub(crate) struct Bench {
-    pub(crate) record: Vec<u8>,
-    pub(crate) state: State,
-    pub(crate) sequence: u64,
-    pub(crate) at: u64,
+pub struct Bench {
+    pub record: Vec<u8>,
+    pub state: State,
+    pub sequence: u64,
+    pub at: u64,
 }
 
 // The number of a refusal. A name stands beside the conditions from 20 on.
@@ -54,8 +54,8 @@ fn number_cut(verdict: CutVerdict<'_>) -> Option<u8> {
     }
 }
 
-// The module of a record.
-pub(crate) fn owner_of(alloc: Global, record: &[u8]) -> Option<Module>
+/// The module of a record.
+pub fn owner_of(alloc: Global, record: &[u8]) -> Option<Module>
     ensures limits { IfSome result (λ owner. HasLimits owner) }
 {
     match read_module(alloc, record) {
@@ -146,9 +146,9 @@ fn in_pieces(alloc: Global, bench: &Bench, item: &[u8], size: usize) -> Option<u
     }
 }
 
-// The verdict on the item both ways: the number of the condition that fails first, or 0. None where
-// they differ.
-pub(crate) fn verdict_by(alloc: Global, bench: &Bench, item: &[u8], size: usize) -> Option<u8>
+/// The verdict on the item both ways: the number of the condition that fails first, or 0. None where
+/// they differ.
+pub fn verdict_by(alloc: Global, bench: &Bench, item: &[u8], size: usize) -> Option<u8>
     requires some { 0 < size }
 {
     let number = whole(alloc, bench, item)?;
@@ -159,13 +159,13 @@ pub(crate) fn verdict_by(alloc: Global, bench: &Bench, item: &[u8], size: usize)
     }
 }
 
-// The same in pieces of few octets.
-pub(crate) fn verdict(alloc: Global, bench: &Bench, item: &[u8]) -> Option<u8> {
+/// The same in pieces of few octets.
+pub fn verdict(alloc: Global, bench: &Bench, item: &[u8]) -> Option<u8> {
     verdict_by(alloc, bench, item, PIECE)
 }
 
-// The same of an item that could be made.
-pub(crate) fn verdict_of(alloc: Global, bench: &Bench, item: Option<Vec<u8>>) -> Option<u8> {
+/// The same of an item that could be made.
+pub fn verdict_of(alloc: Global, bench: &Bench, item: Option<Vec<u8>>) -> Option<u8> {
     match item {
         Some(item) => verdict(alloc, bench, &item),
         None => None,

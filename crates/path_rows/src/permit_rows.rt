@@ -1,8 +1,9 @@
 // What a path permits (RFC 6010, section 4), by certificates and packages that a packager signs.
-use crate::case::{Case, plain_bench};
-use crate::module::{LISTS, record_of};
-use crate::signer::{CA, SIGNER, certificate, package, public_octets};
-use crate::verdict::{verdict, verdict_of};
+use crate::row::row;
+use judge_bench::case::{Case, plain_bench};
+use judge_bench::module::{LISTS, record_of};
+use judge_bench::signer::{CA, SIGNER, certificate, package, public_octets};
+use judge_bench::verdict::{verdict, verdict_of};
 use std::alloc::Global;
 use std::test::Fail;
 
@@ -59,17 +60,20 @@ fn says(alloc: Global, chain: &(Vec<u8>, Vec<u8>), name: &str) -> Option<u8> {
 fn a_listed_version_is_the_least(rt: HostRuntime) -> Result<(), Fail> {
     let a = rt.alloc();
     let chain = chain(a, VERSION_7, FIRMWARE).ok_or("certificates")?;
-    assert_eq!(rt;
+    row(
+        &rt,
         says(a, &chain, "package 1.2.3.1 8\nstale 2\ntarget 1.2.3\n"),
-        Some(0)
+        0,
     );
-    assert_eq!(rt;
+    row(
+        &rt,
         says(a, &chain, "package 1.2.3.1 6\ntarget 1.2.3\n"),
-        Some(28)
+        28,
     );
-    assert_eq!(rt;
+    row(
+        &rt,
         says(a, &chain, "package 1.2.3.2 9\ntarget 1.2.3\n"),
-        Some(28)
+        28,
     );
     Ok(())
 }
@@ -79,14 +83,12 @@ fn a_listed_version_is_the_least(rt: HostRuntime) -> Result<(), Fail> {
 fn any_content_takes_in_packages(rt: HostRuntime) -> Result<(), Fail> {
     let a = rt.alloc();
     let chain = chain(a, VERSION_7, ANY).ok_or("certificates")?;
-    assert_eq!(rt;
+    row(
+        &rt,
         says(a, &chain, "package 1.2.3.2 7\ntarget 1.2.3\n"),
-        Some(28)
+        28,
     );
-    assert_eq!(rt;
-        says(a, &chain, "package 1.2.3.1 7\ntarget 1.2.3\n"),
-        Some(0)
-    );
+    row(&rt, says(a, &chain, "package 1.2.3.1 7\ntarget 1.2.3\n"), 0);
     Ok(())
 }
 
@@ -95,14 +97,12 @@ fn any_content_takes_in_packages(rt: HostRuntime) -> Result<(), Fail> {
 fn each_member_permits(rt: HostRuntime) -> Result<(), Fail> {
     let a = rt.alloc();
     let chain = chain(a, VERSION_7, VERSION_9).ok_or("certificates")?;
-    assert_eq!(rt;
+    row(
+        &rt,
         says(a, &chain, "package 1.2.3.1 8\ntarget 1.2.3\n"),
-        Some(28)
+        28,
     );
-    assert_eq!(rt;
-        says(a, &chain, "package 1.2.3.1 9\ntarget 1.2.3\n"),
-        Some(0)
-    );
+    row(&rt, says(a, &chain, "package 1.2.3.1 9\ntarget 1.2.3\n"), 0);
     Ok(())
 }
 
@@ -111,13 +111,11 @@ fn each_member_permits(rt: HostRuntime) -> Result<(), Fail> {
 fn listed_hardware_is_the_most(rt: HostRuntime) -> Result<(), Fail> {
     let a = rt.alloc();
     let chain = chain(a, TOGETHER, ANY).ok_or("certificates")?;
-    assert_eq!(rt;
-        says(a, &chain, "package 1.2.3.1 7\ntarget 1.2.3\n"),
-        Some(0)
-    );
-    assert_eq!(rt;
+    row(&rt, says(a, &chain, "package 1.2.3.1 7\ntarget 1.2.3\n"), 0);
+    row(
+        &rt,
         says(a, &chain, "package 1.2.3.1 7\ntarget 1.2.3\ntarget 1.2.5\n"),
-        Some(28)
+        28,
     );
     Ok(())
 }
@@ -127,14 +125,12 @@ fn listed_hardware_is_the_most(rt: HostRuntime) -> Result<(), Fail> {
 fn one_hardware_value_covers(rt: HostRuntime) -> Result<(), Fail> {
     let a = rt.alloc();
     let chain = chain(a, APART, ANY).ok_or("certificates")?;
-    assert_eq!(rt;
+    row(
+        &rt,
         says(a, &chain, "package 1.2.3.1 7\ntarget 1.2.3\ntarget 1.2.4\n"),
-        Some(28)
+        28,
     );
-    assert_eq!(rt;
-        says(a, &chain, "package 1.2.3.1 7\ntarget 1.2.3\n"),
-        Some(0)
-    );
+    row(&rt, says(a, &chain, "package 1.2.3.1 7\ntarget 1.2.3\n"), 0);
     Ok(())
 }
 
@@ -143,10 +139,11 @@ fn one_hardware_value_covers(rt: HostRuntime) -> Result<(), Fail> {
 fn a_legacy_name_covers_itself(rt: HostRuntime) -> Result<(), Fail> {
     let a = rt.alloc();
     let chain = chain(a, LEGACY, ANY).ok_or("certificates")?;
-    assert_eq!(rt; says(a, &chain, "legacy 414243\ntarget 1.2.3\n"), Some(0));
-    assert_eq!(rt;
+    row(&rt, says(a, &chain, "legacy 414243\ntarget 1.2.3\n"), 0);
+    row(
+        &rt,
         says(a, &chain, "legacy 414243\nlegacystale 41\ntarget 1.2.3\n"),
-        Some(28)
+        28,
     );
     Ok(())
 }
@@ -167,8 +164,8 @@ fn under_root(alloc: Global, constraint: &str) -> Option<u8> {
 #[test]
 fn a_certificate_must_permit(rt: HostRuntime) {
     let a = rt.alloc();
-    assert_eq!(rt; under_root(a, ""), Some(28));
-    assert_eq!(rt; under_root(a, FIRMWARE), Some(0));
+    row(&rt, under_root(a, ""), 28);
+    row(&rt, under_root(a, FIRMWARE), 0);
 }
 
 // The verdict on a package where the anchor has these constraints.
@@ -181,7 +178,7 @@ fn under_anchor(case: &mut Case, constraints: &[u8]) -> Option<u8> {
 #[test]
 fn an_anchor_must_permit(rt: HostRuntime) -> Result<(), Fail> {
     let mut case = Case::plain(rt.alloc()).ok_or("a package")?;
-    assert_eq!(rt; under_anchor(&mut case, NOT), Some(28));
-    assert_eq!(rt; under_anchor(&mut case, FIRMWARE_TEXT), Some(0));
+    row(&rt, under_anchor(&mut case, NOT), 28);
+    row(&rt, under_anchor(&mut case, FIRMWARE_TEXT), 0);
     Ok(())
 }

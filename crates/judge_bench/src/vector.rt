@@ -1,9 +1,9 @@
 // Packages by another implementation: `tests/package_vectors.py` at the top of the repository
 // prints this file.
 
-// The package 1.2.3.1 in version 7 for hardware 1.2.3, whose image is `hello`, by the key H5 W4 of octets
-// 01 with its first leaf, and with the signer's key identifier A1.
-pub(crate) const PLAIN: &str = "\
+/// The package 1.2.3.1 in version 7 for hardware 1.2.3, whose image is `hello`, by the key H5 W4 of
+/// octets 01 with its first leaf, and with the signer's key identifier A1; in hex.
+pub const PLAIN: &str = "\
     30820a1f06092a864886f70d010702a0820a1030820a0c020103310d300b06096086480165030402013016060b2a864886f70d0109100110\
     a007040568656c6c6f318209de308209da0201038001a1300b0609608648016503040201a081813015060b2a864886f70d01091002243106\
     300406022a03301a06092a864886f70d010903310d060b2a864886f70d0109100110301b060b2a864886f70d0109100223310c300a300806\
@@ -52,9 +52,9 @@ pub(crate) const PLAIN: &str = "\
     555f33e037b4d54737a78b88f0c9f58afbfaba3c29d2fddbc2da71e490c6b6b8069dd645101dee3504df4b1eda4b899045814e59afb9ec70\
     6879fdb9fd5b7a0b3a1172cb3c48cb637c22ce";
 
-// The same by the key of octets 03 and with the identifier B3, and with two certificates: of that key, by
-// the key of octets 02, and of this, by that of octets 01.
-pub(crate) const TWO: &str = "\
+/// The same by the key of octets 03 and with the identifier B3, and with two certificates: of that
+/// key, by the key of octets 02, and of this, by that of octets 01.
+pub const TWO: &str = "\
     30821eb506092a864886f70d010702a0821ea630821ea2020103310d300b06096086480165030402013016060b2a864886f70d0109100110\
     a007040568656c6c6fa082149230820a3d3081f6a003020102020103300d060b2a864886f70d0109100311300d310b300906035504030c02\
     6361301e170d3230303130313030303030305a170d3430313233313233353935395a3011310f300d06035504030c067369676e6572304e30\

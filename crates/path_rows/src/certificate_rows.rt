@@ -1,10 +1,11 @@
 // The conditions 20 to 29, in the same way: the values, and the path of the signer (RFC 5652, sections 5.4,
 // 5.6, 11.1 and 11.2; RFC 5280, section 6.1; RFC 6010, section 4).
-use crate::case::{Case, plain_bench};
-use crate::octets::bent;
-use crate::signer::{CA, SIGNER, certificate, package};
-use crate::verdict::owner_of;
+use crate::row::row;
 use der_core::Moment;
+use judge_bench::case::{Case, plain_bench};
+use judge_bench::octets::bent;
+use judge_bench::signer::{CA, SIGNER, certificate, package};
+use judge_bench::verdict::owner_of;
 use judge_core::{Verdict, judge};
 use package_attrs::PackageName;
 use std::alloc::Global;
@@ -37,17 +38,19 @@ const SIGNER_ID: (&[u8], &[u8]) = (b"\x80\x01\xa1", b"\x80\x01\xa2");
 #[test]
 fn values_are_those_of_the_content(rt: HostRuntime) -> Result<(), Fail> {
     let case = Case::plain(rt.alloc()).ok_or("a package")?;
-    assert_eq!(rt; case.bends(KIND.0, KIND.1), Some(20));
-    assert_eq!(rt;
+    row(&rt, case.bends(KIND.0, KIND.1), 20);
+    row(
+        &rt,
         case.bends_both(KIND.0, KIND.1, CONTENT.0, CONTENT.1),
-        Some(20)
+        20,
     );
-    assert_eq!(rt; case.bends(CONTENT.0, CONTENT.1), Some(21));
-    assert_eq!(rt;
+    row(&rt, case.bends(CONTENT.0, CONTENT.1), 21);
+    row(
+        &rt,
         case.bends_both(CONTENT.0, CONTENT.1, SIGNER_ID.0, SIGNER_ID.1),
-        Some(21)
+        21,
     );
-    assert_eq!(rt; case.bends(SIGNER_ID.0, SIGNER_ID.1), Some(22));
+    row(&rt, case.bends(SIGNER_ID.0, SIGNER_ID.1), 22);
     Ok(())
 }
 
@@ -97,15 +100,16 @@ const EXTENSION: (&[u8], &[u8]) = (b"\x55\x1d\x13\x01\x01\xff", b"\x55\x1d\x1e\x
 #[test]
 fn a_path_has_extensions(rt: HostRuntime) -> Result<(), Fail> {
     let mut case = Case::two(rt.alloc()).ok_or("a package")?;
-    assert_eq!(rt; case.says(&case.item), Some(0));
-    assert_eq!(rt; case.bends(ISSUER.0, ISSUER.1), Some(22));
-    assert_eq!(rt;
+    row(&rt, case.says(&case.item), 0);
+    row(&rt, case.bends(ISSUER.0, ISSUER.1), 22);
+    row(
+        &rt,
         case.bends_both(ISSUER.0, ISSUER.1, EXTENSION.0, EXTENSION.1),
-        Some(22)
+        22,
     );
-    assert_eq!(rt; case.bends(EXTENSION.0, EXTENSION.1), Some(23));
+    row(&rt, case.bends(EXTENSION.0, EXTENSION.1), 23);
     case.bench.at = 20_310_101_000_000;
-    assert_eq!(rt; case.bends(EXTENSION.0, EXTENSION.1), Some(23));
+    row(&rt, case.bends(EXTENSION.0, EXTENSION.1), 23);
     Ok(())
 }
 
@@ -118,17 +122,17 @@ const SIGNER_USE: (&[u8], &[u8]) = (b"\x04\x04\x03\x02\x07\x80", b"\x04\x04\x03\
 #[test]
 fn a_path_is_valid(rt: HostRuntime) -> Result<(), Fail> {
     let mut case = Case::two(rt.alloc()).ok_or("a package")?;
-    assert_eq!(rt; case.bends(UPPER_USE.0, UPPER_USE.1), Some(25));
-    assert_eq!(rt; case.bends(SIGNER_USE.0, SIGNER_USE.1), Some(25));
+    row(&rt, case.bends(UPPER_USE.0, UPPER_USE.1), 25);
+    row(&rt, case.bends(SIGNER_USE.0, SIGNER_USE.1), 25);
     case.bench.at = 20_301_231_235_959;
-    assert_eq!(rt; case.says(&case.item), Some(0));
+    row(&rt, case.says(&case.item), 0);
     case.bench.at = 20_310_101_000_000;
-    assert_eq!(rt; case.says(&case.item), Some(24));
-    assert_eq!(rt; case.bends(UPPER_USE.0, UPPER_USE.1), Some(24));
+    row(&rt, case.says(&case.item), 24);
+    row(&rt, case.bends(UPPER_USE.0, UPPER_USE.1), 24);
     case.bench.at = 20_200_101_000_000;
-    assert_eq!(rt; case.says(&case.item), Some(0));
+    row(&rt, case.says(&case.item), 0);
     case.bench.at = 20_191_231_235_959;
-    assert_eq!(rt; case.says(&case.item), Some(24));
+    row(&rt, case.says(&case.item), 24);
     Ok(())
 }
 
@@ -153,15 +157,16 @@ const ALGORITHM: (&[u8], &[u8]) = (
 #[test]
 fn keys_and_signatures_are_those_of_the_path(rt: HostRuntime) -> Result<(), Fail> {
     let case = Case::two(rt.alloc()).ok_or("a package")?;
-    assert_eq!(rt;
+    row(
+        &rt,
         case.bends_both(UPPER_USE.0, UPPER_USE.1, KEY.0, KEY.1),
-        Some(25)
+        25,
     );
-    assert_eq!(rt; case.bends(KEY.0, KEY.1), Some(26));
-    assert_eq!(rt; case.bends(LEVELS.0, LEVELS.1), Some(26));
-    assert_eq!(rt; case.bends_both(KEY.0, KEY.1, SERIAL.0, SERIAL.1), Some(26));
-    assert_eq!(rt; case.bends(SERIAL.0, SERIAL.1), Some(27));
-    assert_eq!(rt; case.bends(ALGORITHM.0, ALGORITHM.1), Some(27));
+    row(&rt, case.bends(KEY.0, KEY.1), 26);
+    row(&rt, case.bends(LEVELS.0, LEVELS.1), 26);
+    row(&rt, case.bends_both(KEY.0, KEY.1, SERIAL.0, SERIAL.1), 26);
+    row(&rt, case.bends(SERIAL.0, SERIAL.1), 27);
+    row(&rt, case.bends(ALGORITHM.0, ALGORITHM.1), 27);
     Ok(())
 }
 
@@ -170,7 +175,7 @@ fn keys_and_signatures_are_those_of_the_path(rt: HostRuntime) -> Result<(), Fail
 #[test]
 fn another_key_signs_no_certificate(rt: HostRuntime) -> Result<(), Fail> {
     let case = signed_by(rt.alloc(), 1, "").ok_or("a package")?;
-    assert_eq!(rt; case.says(&case.item), Some(27));
+    row(&rt, case.says(&case.item), 27);
     Ok(())
 }
 
@@ -186,11 +191,11 @@ fn last_bent(case: &Case) -> Option<u8> {
 #[test]
 fn a_signer_is_permitted(rt: HostRuntime) -> Result<(), Fail> {
     let case = signed_by(rt.alloc(), 2, "").ok_or("a package")?;
-    assert_eq!(rt; case.bends(SERIAL.0, SERIAL.1), Some(27));
-    assert_eq!(rt; case.says(&case.item), Some(28));
-    assert_eq!(rt; last_bent(&case), Some(28));
+    row(&rt, case.bends(SERIAL.0, SERIAL.1), 27);
+    row(&rt, case.says(&case.item), 28);
+    row(&rt, last_bent(&case), 28);
     let case = Case::two(rt.alloc()).ok_or("a package")?;
-    assert_eq!(rt; last_bent(&case), Some(29));
+    row(&rt, last_bent(&case), 29);
     Ok(())
 }
 
@@ -204,12 +209,12 @@ fn a_signature_holds(rt: HostRuntime) -> Result<(), Fail> {
     let mut case = Case::plain(rt.alloc()).ok_or("a package")?;
     let leaf = b"\x04\x82\x09\x30\x00\x00\x00\x00\x00\x00\x00\x00";
     let none = b"\x04\x82\x09\x30\x00\x00\x00\x00\x00\x00\x00\x20";
-    assert_eq!(rt; last_bent(&case), Some(29));
-    assert_eq!(rt; case.bends(leaf, none), Some(29));
+    row(&rt, last_bent(&case), 29);
+    row(&rt, case.bends(leaf, none), 29);
     case.bench.record = bent(case.alloc, &case.bench.record, HARDWARE.0, HARDWARE.1).ok_or(
         "a record",
     )?;
-    assert_eq!(rt; last_bent(&case), Some(29));
-    assert_eq!(rt; case.says(&case.item), Some(30));
+    row(&rt, last_bent(&case), 29);
+    row(&rt, case.says(&case.item), 30);
     Ok(())
 }

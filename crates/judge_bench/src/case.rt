@@ -6,11 +6,11 @@ use crate::verdict::{AT, Bench, verdict};
 use config_table::State;
 use std::alloc::Global;
 
-// The lines of a package whose image is `hello`, of the key that the anchor has.
-pub(crate) const HELLO: &str = "package 1.2.3.1 7\ntarget 1.2.3\nsigner a1\nimage 68656c6c6f\n";
+/// The lines of a package whose image is `hello`, of the key that the anchor has.
+pub const HELLO: &str = "package 1.2.3.1 7\ntarget 1.2.3\nsigner a1\nimage 68656c6c6f\n";
 
-// A plain module on which nothing is installed.
-pub(crate) fn plain_bench(alloc: Global) -> Option<Bench> {
+/// A plain module on which nothing is installed.
+pub fn plain_bench(alloc: Global) -> Option<Bench> {
     Some(Bench {
         record: record(alloc, LISTS)?,
         state: State::new(alloc),
@@ -19,12 +19,12 @@ pub(crate) fn plain_bench(alloc: Global) -> Option<Bench> {
     })
 }
 
-// An item, by which others are made.
+/// An item, by which others are made.
 #[derive(Drop)]
-pub(crate) struct Case {
-    pub(crate) alloc: Global,
-    pub(crate) bench: Bench,
-    pub(crate) item: Vec<u8>,
+pub struct Case {
+    pub alloc: Global,
+    pub bench: Bench,
+    pub item: Vec<u8>,
 }
 
 impl Case {
@@ -37,35 +37,29 @@ impl Case {
         }
     }
 
-    // One without certificates.
-    pub(crate) fn plain(alloc: Global) -> Option<Case> {
+    /// One without certificates.
+    pub fn plain(alloc: Global) -> Option<Case> {
         Case::vector(alloc, PLAIN)
     }
 
-    // One of a signer under an authority.
-    pub(crate) fn two(alloc: Global) -> Option<Case> {
+    /// One of a signer under an authority.
+    pub fn two(alloc: Global) -> Option<Case> {
         Case::vector(alloc, TWO)
     }
 
-    // The verdict on these octets.
-    pub(crate) fn says(&self, item: &[u8]) -> Option<u8> {
+    /// The verdict on these octets.
+    pub fn says(&self, item: &[u8]) -> Option<u8> {
         verdict(self.alloc, &self.bench, item)
     }
 
-    // The verdict on the item with other octets in place of the first of it that are these.
-    pub(crate) fn bends(&self, from: &[u8], to: &[u8]) -> Option<u8> {
+    /// The verdict on the item with other octets in place of the first of it that are these.
+    pub fn bends(&self, from: &[u8], to: &[u8]) -> Option<u8> {
         let item = bent(self.alloc, &self.item, from, to)?;
         self.says(&item)
     }
 
-    // The same with two such places.
-    pub(crate) fn bends_both(
-        &self,
-        from: &[u8],
-        to: &[u8],
-        second: &[u8],
-        other: &[u8],
-    ) -> Option<u8> {
+    /// The same with two such places.
+    pub fn bends_both(&self, from: &[u8], to: &[u8], second: &[u8], other: &[u8]) -> Option<u8> {
         let once = bent(self.alloc, &self.item, from, to)?;
         let twice = bent(self.alloc, &once, second, other)?;
         self.says(&twice)
