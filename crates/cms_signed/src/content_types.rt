@@ -1,17 +1,17 @@
-// Types of contents, by the contents of their identifiers.
+//! Types of contents, as the contents of their OBJECT IDENTIFIERs.
 
-// id-signedData (RFC 5652, section 5.1).
-pub(crate) const SIGNED_DATA: [u8; 9] = [0x2a, 0x86, 0x48, 0x86, 0xf7, 0x0d, 0x01, 0x07, 0x02];
+/// id-signedData, 1.2.840.113549.1.7.2 (RFC 5652, section 5.1).
+pub const SIGNED_DATA: [u8; 9] = [0x2a, 0x86, 0x48, 0x86, 0xf7, 0x0d, 0x01, 0x07, 0x02];
 
-// id-encryptedData (RFC 5652, section 8).
-pub(crate) const ENCRYPTED_DATA: [u8; 9] = [0x2a, 0x86, 0x48, 0x86, 0xf7, 0x0d, 0x01, 0x07, 0x06];
+/// id-encryptedData, 1.2.840.113549.1.7.6 (RFC 5652, section 8).
+pub const ENCRYPTED_DATA: [u8; 9] = [0x2a, 0x86, 0x48, 0x86, 0xf7, 0x0d, 0x01, 0x07, 0x06];
 
-// id-ct-compressedData (RFC 3274, section 1.1).
-pub(crate) const COMPRESSED_DATA: [u8; 11] = [
+/// id-ct-compressedData, 1.2.840.113549.1.9.16.1.9 (RFC 3274, section 1.1).
+pub const COMPRESSED_DATA: [u8; 11] = [
     0x2a, 0x86, 0x48, 0x86, 0xf7, 0x0d, 0x01, 0x09, 0x10, 0x01, 0x09,
 ];
 
-// id-ct-firmwarePackage (RFC 4108, section 2.1.5).
-pub(crate) const FIRMWARE_PACKAGE: [u8; 11] = [
+/// id-ct-firmwarePackage, 1.2.840.113549.1.9.16.1.16 (RFC 4108, section 2.1.5).
+pub const FIRMWARE_PACKAGE: [u8; 11] = [
     0x2a, 0x86, 0x48, 0x86, 0xf7, 0x0d, 0x01, 0x09, 0x10, 0x01, 0x10,
 ];

@@ -24,6 +24,8 @@
 //!   INTEGER (`a_version_is_an_integer`). Conditions on the octets behind encapContentInfo can be asked
 //!   of these octets alone, after the others (`tail_goes_on`).
 //!
+//! `content_types` are the identifiers of contents, for all who name one.
+//!
 //! Each octet of the frame is looked at once or twice as it comes, but that the heads before the
 //! content are read again with each piece until they are whole. The readers take time linear in the
 //! octets, but for signed attributes, whose types are sorted, and memory for these alone: 8 octets for
@@ -42,7 +44,7 @@
 #![tactic(auto)]
 
 mod certificates;
-mod content_types;
+pub mod content_types;
 mod cut;
 mod gapped;
 pub mod laws;

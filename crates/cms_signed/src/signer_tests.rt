@@ -1,16 +1,13 @@
-// The conditions 12 to 18, each as the least that fails, and what is read where none does. Octets
-// worked by hand from RFC 5652, sections 5.1, 5.3 and 5.4, and a package of another implementation.
-use crate::tests::{in_pieces, number};
+// What another implementation signed (RFC 5652, sections 5.1, 5.3 and 5.4).
+use crate::tests::fails_by;
 use crate::*;
 use cert_fields::Sid;
-use der_core::read_oid;
-use std::alloc::{AllocError, Global};
-use std::test::Fail;
+use std::alloc::Global;
 
 // OpenSSL 3.0.19, with a new key of `-newkey ec -pkeyopt ec_paramgen_curve:P-256 -subj /CN=a`:
 // `openssl cms -sign -binary -nodetach -nosmimecap -md sha256 -outform DER -econtent_type
 // 1.2.840.113549.1.9.16.1.16`, of the content `hello`. Its signature is by ECDSA.
-const ECDSA: &[u8] =
+const ECDSA: &[u8; 657] =
     b"\x30\x82\x02\x8d\x06\x09\x2a\x86\x48\x86\xf7\x0d\x01\x07\x02\xa0\x82\x02\x7e\x30\x82\x02\x7a\x02\
     \x01\x03\x31\x0d\x30\x0b\x06\x09\x60\x86\x48\x01\x65\x03\x04\x02\x01\x30\x16\x06\x0b\x2a\x86\x48\
     \x86\xf7\x0d\x01\x09\x10\x01\x10\xa0\x07\x04\x05\x68\x65\x6c\x6c\x6f\xa0\x82\x01\x60\x30\x82\x01\
@@ -40,184 +37,65 @@ const ECDSA: &[u8] =
     \x00\xa6\xa0\xd9\x93\x59\xc0\x84\x6c\xf4\x02\xdc\xe1\x2c\x7a\x9e\xc9\x01\x52\x1c\x1c\xe2\x3e\x74\
     \xb6\x49\xcf\x39\x07\xd3\xad\x8d\xb1";
 
-// All that stands in signed data before the certificates: the content is `hello`.
-const FRONT: &[u8] =
-    b"\x02\x01\x03\x31\x00\x30\x16\x06\x0b\x2a\x86\x48\x86\xf7\x0d\x01\x09\x10\x01\x10\xa0\
-    \x07\x04\x05hello";
+const HSS_LMS: [u8; 15] = *b"\x30\x0d\x06\x0b\x2a\x86\x48\x86\xf7\x0d\x01\x09\x10\x03\x11";
 
-const SIGNED_DATA: &[u8] = b"\x06\x09\x2a\x86\x48\x86\xf7\x0d\x01\x07\x02";
+// The same with HSS/LMS for the signature's algorithm and a signature that is as much shorter.
+fn by_hss() -> [u8; 657] {
+    let mut item = *ECDSA;
+    item[571..586].copy_from_slice(&HSS_LMS);
+    item[586..588].copy_from_slice(&[0x04, 0x45]);
+    item
+}
 
-// The parts of a signer: the version and the key identifier A1, algorithms, one signed attribute of
-// type 1.2 without values, and a signature of one octet.
-const VERSION: &[u8] = b"\x02\x01\x03\x80\x01\xa1";
-
-const SHA_256: &[u8] = b"\x30\x0b\x06\x09\x60\x86\x48\x01\x65\x03\x04\x02\x01";
-
-const SHA_256_NULL: &[u8] = b"\x30\x0d\x06\x09\x60\x86\x48\x01\x65\x03\x04\x02\x01\x05\x00";
-
-const SHA_1: &[u8] = b"\x30\x07\x06\x05\x2b\x0e\x03\x02\x1a";
-
-const ATTRIBUTE: &[u8] = b"\xa0\x07\x30\x05\x06\x01\x2a\x31\x00";
-
-const HSS_LMS: &[u8] = b"\x30\x0d\x06\x0b\x2a\x86\x48\x86\xf7\x0d\x01\x09\x10\x03\x11";
-
-const SIGNATURE: &[u8] = b"\x04\x01\x07";
-
-const GOOD: [&[u8]; 5] = [VERSION, SHA_256, ATTRIBUTE, HSS_LMS, SIGNATURE];
-
-// An element of up to 65,535 octets.
-fn element(alloc: Global, tag: u8, contents: &[u8]) -> Result<Vec<u8>, AllocError> {
-    let size = contents.len();
-    let low = (size % 256) as u8;
-    let mut octets = Vec::new(alloc);
-    octets.push(tag)?;
-    if size < 128 {
-        octets.push(low)?;
-    } else if size < 256 {
-        octets.extend_from_slice(&[0x81, low])?;
-    } else {
-        octets.extend_from_slice(&[0x82, (size / 256 % 256) as u8, low])?;
+fn is_one(certs: &Certificates<'_>) -> bool {
+    let mut certs = certs.iter();
+    match certs.next() {
+        Some(cert) => Some(cert.whole) == ECDSA.get(69..421) && certs.next().is_none(),
+        None => false,
     }
-    octets.extend_from_slice(contents)?;
-    Ok(octets)
 }
 
-// A package with these octets behind the content: certificates, and the contents of signerInfos.
-fn package(alloc: Global, certificates: &[u8], signers: &[u8]) -> Result<Vec<u8>, AllocError> {
-    let mut fields = Vec::new(alloc);
-    fields.extend_from_slice(FRONT)?;
-    fields.extend_from_slice(certificates)?;
-    fields.extend_from_slice(&element(alloc, 0x31, signers)?)?;
-    let data = element(alloc, 0x30, &fields)?;
-    let mut info = Vec::new(alloc);
-    info.extend_from_slice(SIGNED_DATA)?;
-    info.extend_from_slice(&element(alloc, 0xa0, &data)?)?;
-    element(alloc, 0x30, &info)
-}
-
-// A signer of these parts.
-fn signer(alloc: Global, parts: &[&[u8]]) -> Result<Vec<u8>, AllocError> {
-    let mut contents = Vec::new(alloc);
-    for part in parts {
-        contents.extend_from_slice(part)?;
+fn keeps_one(alloc: Global, certs: &Certificates<'_>) -> bool {
+    match certs.keep(alloc) {
+        Ok(kept) => kept.len() == 1,
+        Err(_) => false,
     }
-    element(alloc, 0x30, &contents)
 }
 
-// The first condition that fails where these certificates and a signer of these parts stand behind
-// the content.
-fn failing(alloc: Global, certificates: &[u8], parts: &[&[u8]]) -> Result<Option<u8>, AllocError> {
-    let item = package(alloc, certificates, &signer(alloc, parts)?)?;
-    Ok(number(&read_signed(alloc, &item)))
-}
-
-#[test]
-fn tells_the_least_condition_that_fails(rt: HostRuntime) -> Result<(), Fail> {
-    let alloc = rt.alloc();
-    let none = b"".as_slice();
-    assert_eq!(rt; failing(alloc, none, &GOOD)?, Some(0));
-    let null = [VERSION, SHA_256_NULL, ATTRIBUTE, HSS_LMS, SIGNATURE];
-    assert_eq!(rt;
-        failing(alloc, b"\xa0\x02\xa1\x00", &null)?,
-        Some(0),
-        "another form, and NULL"
-    );
-    // certificates that are none, with a signer that is none either
-    assert_eq!(rt; failing(alloc, b"\xa0\x02\x30\x00", &[])?, Some(12));
-    assert_eq!(rt; failing(alloc, none, &[])?, Some(14));
-    let behind = [VERSION, SHA_256, ATTRIBUTE, HSS_LMS, SIGNATURE, b"\x05\x00"];
-    assert_eq!(rt;
-        failing(alloc, none, &behind)?,
-        Some(14),
-        "an element behind the signer"
-    );
-    // unsigned attributes that are none, and no signed ones
-    let unsigned = [VERSION, SHA_1, SHA_1, SIGNATURE, b"\xa1\x02\x05\x00"];
-    assert_eq!(rt; failing(alloc, none, &unsigned)?, Some(15));
-    // both algorithms are others
-    let unsigned = [VERSION, SHA_1, SHA_1, SIGNATURE];
-    assert_eq!(rt; failing(alloc, none, &unsigned)?, Some(16));
-    let empty = [VERSION, SHA_1, b"\xa0\x00", SHA_1, SIGNATURE];
-    assert_eq!(rt;
-        failing(alloc, none, &empty)?,
-        Some(17),
-        "no attribute is in order"
-    );
-    let signature = [VERSION, SHA_256, ATTRIBUTE, SHA_256, SIGNATURE];
-    assert_eq!(rt; failing(alloc, none, &signature)?, Some(18));
-    Ok(())
-}
-
-#[test]
-fn there_is_one_signer(rt: HostRuntime) -> Result<(), Fail> {
-    let alloc = rt.alloc();
-    let mut two = signer(alloc, &GOOD)?;
-    two.extend_from_slice(&signer(alloc, &GOOD)?)?;
-    let item = package(alloc, b"", &two)?;
-    assert_eq!(rt; number(&read_signed(alloc, &item)), Some(13));
-    Ok(())
-}
-
-#[test]
-fn a_package_in_pieces_is_read(rt: HostRuntime) -> Result<(), Fail> {
-    let alloc = rt.alloc();
-    let item = package(alloc, b"", &signer(alloc, &GOOD)?)?;
-    let size = item.len();
-    assert_eq!(rt;
-        in_pieces(alloc, &item, 9),
-        Some((Some((41, 5)), size.wrapping_sub(5), 5, Some(0)))
-    );
-    Ok(())
-}
-
-// The content type firmwareLoadReceipt (RFC 4108, section 3), and firmwarePackage.
-const RECEIPT: &[u8] = b"\x2a\x86\x48\x86\xf7\x0d\x01\x09\x10\x01\x11";
-
-const FIRMWARE_PACKAGE: &[u8] = b"\x2a\x86\x48\x86\xf7\x0d\x01\x09\x10\x01\x10";
-
-#[test]
-fn the_content_type_is_that_asked_for(rt: HostRuntime) -> Result<(), Fail> {
-    let alloc = rt.alloc();
-    let item = package(alloc, b"", &signer(alloc, &GOOD)?)?;
-    let (Some(package), Some(receipt)) = (read_oid(FIRMWARE_PACKAGE), read_oid(RECEIPT)) else {
-        return Err(Fail::from("no identifier"));
-    };
-    assert_eq!(rt; number(&read_signed_of(alloc, &item, &package)), Some(0));
-    assert_eq!(rt; number(&read_signed_of(alloc, &item, &receipt)), Some(9));
-    Ok(())
-}
-
-// The package of the other implementation fails by its signature's algorithm alone. With HSS/LMS in
-// its place the rest is read: the certificate, the issuer's name and serial number, and attributes.
-#[test]
-fn reads_what_another_implementation_signed(rt: HostRuntime) -> Result<(), Fail> {
-    let alloc = rt.alloc();
-    assert_eq!(rt; number(&read_signed(alloc, ECDSA)), Some(18));
-    let signer = signer(alloc, &[&ECDSA[427..571], HSS_LMS, SIGNATURE])?;
-    let item = package(alloc, &ECDSA[65..421], &signer)?;
-    let view = match read_signed(alloc, &item) {
-        Ok(view) => view,
-        Err(_) => return Err(Fail::from("a condition fails")),
-    };
-    assert!(rt; view.content == b"hello".as_slice());
-    let mut certs = view.certs.iter();
-    let Some(cert) = certs.next() else {
-        return Err(Fail::from("no certificate"));
-    };
-    assert!(rt; cert.whole == &ECDSA[69..421]);
-    assert!(rt; certs.next().is_none());
-    match view.sid {
+fn is_by_serial(sid: &Sid<'_>) -> bool {
+    match sid {
         Sid::Serial { issuer, serial } => {
-            assert!(rt; issuer == &ECDSA[432..446]);
-            assert!(rt; serial == b"\x01".as_slice());
+            Some(*issuer) == ECDSA.get(432..446) && *serial == b"\x01".as_slice()
         }
-        Sid::KeyId(_) => return Err(Fail::from("a key identifier")),
+        Sid::KeyId(_) => false,
     }
+}
+
+// The first of the signed attributes is the content type.
+fn has_its_parts(alloc: Global, view: &SignedView<'_>) -> bool {
     let Some(first) = view.attrs.iter().next() else {
-        return Err(Fail::from("no attribute"));
+        return false;
     };
-    assert!(rt; first.values == &ECDSA[479..492]);
-    assert!(rt; view.attrs_rest == &ECDSA[463..571]);
-    assert!(rt; view.signature == b"\x07".as_slice());
-    Ok(())
+    view.content == b"hello".as_slice()
+        && is_one(&view.certs)
+        && keeps_one(alloc, &view.certs)
+        && is_by_serial(&view.sid)
+        && Some(first.values) == ECDSA.get(479..492)
+        && Some(view.attrs_rest) == ECDSA.get(463..571)
+        && Some(view.signature) == ECDSA.get(588..)
+}
+
+fn is_read(alloc: Global, item: &[u8]) -> bool {
+    match read_signed(alloc, item) {
+        Ok(view) => has_its_parts(alloc, &view),
+        Err(_) => false,
+    }
+}
+
+// Their package fails by its signature's algorithm alone. With HSS/LMS in its place the rest is read:
+// the certificate, the issuer's name and serial number, and attributes.
+#[test]
+fn reads_what_another_implementation_signed(rt: HostRuntime) {
+    assert!(rt; fails_by(rt.alloc(), ECDSA, 18));
+    assert!(rt; is_read(rt.alloc(), &by_hss()));
 }
