@@ -5,7 +5,6 @@ ghost use Rattle.edge_board.specs.Board.{IsSettled};
 use crate::{Fault, Idle, Place, is_open};
 use edge_board::{Board, MemBoard, Pick};
 use std::alloc::Global;
-use std::test::Fail;
 
 // gate 18, manifest 19 to 50, area 84 to 99
 const PLACE: Place = Place {
@@ -38,65 +37,114 @@ fn write_bank<B: Board>(board: &mut B) -> Result<Place, Fault>
     Ok(opened.done())
 }
 
-// What the gate and the five octets read after a power cut behind so many calls, where the gate's
-// octet was this one before them.
-fn read_after(alloc: Global, start: u8, calls: u64, pick: Pick) -> Result<(u8, [u8; 5]), Fail>
-    requires { calls < 100 }
-{
-    let mut board = MemBoard::new(alloc, 100, Vec::new(alloc), calls + 2, 7)?;
-    board.program(GATE, &[start])?;
-    board.sync()?;
-    let _ = write_bank(&mut board);
-    let mut board = board.stopped(alloc, pick, 2, 0)?;
+// Writes the bank where the gate's octet was this one before. The board may stop on the way.
+fn is_begun(board: &mut MemBoard, start: u8) -> bool {
+    if board.blocks() < 100 {
+        return false;
+    }
+    let Ok(()) = board.program(GATE, &[start]) else {
+        return false;
+    };
+    let Ok(()) = board.sync() else {
+        return false;
+    };
+    let _ = write_bank(board);
+    true
+}
+
+// What the gate reads, and whether the five octets stand.
+fn read_bank(board: &mut MemBoard) -> Option<(u8, bool)> {
+    if board.blocks() < 100 {
+        return None;
+    }
     let mut gate = [0u8; 1];
-    board.read(GATE, &mut gate)?;
+    let Ok(()) = board.read(GATE, &mut gate) else {
+        return None;
+    };
     let mut octets = [0u8; 5];
-    board.read(BODY, &mut octets)?;
-    Ok((gate[0], octets))
+    let Ok(()) = board.read(BODY, &mut octets) else {
+        return None;
+    };
+    Some((gate[0], octets == OCTETS))
+}
+
+fn read_stopped(alloc: Global, board: MemBoard, pick: Pick) -> Option<(u8, bool)> {
+    match board.stopped(alloc, pick, 2, 0) {
+        Ok(mut board) => read_bank(&mut board),
+        Err(_) => None,
+    }
+}
+
+// The same after a power cut behind so many calls, where the gate's octet was this one before them.
+fn read_after(alloc: Global, start: u8, calls: u64, pick: Pick) -> Option<(u8, bool)> {
+    match MemBoard::new(alloc, 100, Vec::new(alloc), calls.saturating_add(2), 7) {
+        Ok(mut board) => {
+            let begun = is_begun(&mut board, start);
+            let read = read_stopped(alloc, board, pick);
+            if begun { read } else { None }
+        }
+        Err(_) => None,
+    }
 }
 
 // Where nothing is open before, the calls are a read, 33 erases, a program, a sync, an erase, a
 // sync, a program and a sync. The gate's block is erased by the 37th.
-#[test]
-fn opens_over_its_body_alone(rt: HostRuntime) -> Result<(), Fail> {
-    for calls in 0..=40 {
-        for pick in [Pick::Keep, Pick::Before, Pick::Fill(0x0f), Pick::Fill(0)] {
-            let (gate, octets) = read_after(rt.alloc(), 0xff, calls, pick)?;
-            let lawful = if gate == 0x0f {
-                calls >= 37 && octets == OCTETS
-            } else {
-                calls < 40
-            };
-            assert!(rt; lawful, "gate {gate} after {calls} calls");
-        }
+fn opens_over_its_body(alloc: Global, calls: u64, pick: Pick) -> bool {
+    match read_after(alloc, 0xff, calls, pick) {
+        Some((0x0f, whole)) => calls >= 37 && whole,
+        Some(_) => calls < 40,
+        None => false,
     }
-    Ok(())
 }
 
 // Where the gate is open before, a blank and a sync come second and third.
+fn shuts_first(alloc: Global, calls: u64, pick: Pick) -> bool {
+    match read_after(alloc, 0x0f, calls, pick) {
+        Some((0x0f, whole)) => calls < 3 || calls > 38 && whole,
+        Some(_) => calls > 1 && calls < 42,
+        None => false,
+    }
+}
+
 #[test]
-fn shuts_an_open_gate_first(rt: HostRuntime) -> Result<(), Fail> {
-    for calls in 0..=42 {
+fn opens_over_its_body_alone(rt: HostRuntime) {
+    for calls in 0..=40 {
         for pick in [Pick::Keep, Pick::Before, Pick::Fill(0x0f), Pick::Fill(0)] {
-            let (gate, octets) = read_after(rt.alloc(), 0x0f, calls, pick)?;
-            let lawful = if gate == 0x0f {
-                calls < 3 || calls > 38 && octets == OCTETS
-            } else {
-                calls > 1 && calls < 42
-            };
-            assert!(rt; lawful, "gate {gate} after {calls} calls");
+            assert!(rt;
+                opens_over_its_body(rt.alloc(), calls, pick),
+                "after {calls} calls"
+            );
         }
     }
-    Ok(())
+}
+
+#[test]
+fn shuts_an_open_gate_first(rt: HostRuntime) {
+    for calls in 0..=42 {
+        for pick in [Pick::Keep, Pick::Before, Pick::Fill(0x0f), Pick::Fill(0)] {
+            assert!(rt; shuts_first(rt.alloc(), calls, pick), "after {calls} calls");
+        }
+    }
 }
 
 // The gate's octet alone tells, and it is read as it stands.
+fn is_read_so(board: &mut MemBoard, octets: &[u8; 2], open: bool) -> bool {
+    board.blocks() >= 100
+        && board.program(GATE, octets) == Ok(())
+        && is_open(board, PLACE) == Ok(open)
+}
+
+fn reads_its_octet(alloc: Global) -> bool {
+    match MemBoard::new(alloc, 100, Vec::new(alloc), 4, 4) {
+        Ok(mut board) => {
+            is_read_so(&mut board, &[0x0e, 0x0f], false)
+                && is_read_so(&mut board, &[0x0f, 0x0e], true)
+        }
+        Err(_) => false,
+    }
+}
+
 #[test]
-fn reads_the_gate(rt: HostRuntime) -> Result<(), Fail> {
-    let mut board = MemBoard::new(rt.alloc(), 100, Vec::new(rt.alloc()), 4, 3)?;
-    board.program(GATE, &[0x0e, 0x0f])?;
-    assert_eq!(rt; is_open(&mut board, PLACE), Ok(false));
-    board.program(GATE, &[0x0f])?;
-    assert_eq!(rt; is_open(&mut board, PLACE), Ok(true));
-    Ok(())
+fn reads_the_gate(rt: HostRuntime) {
+    assert!(rt; reads_its_octet(rt.alloc()));
 }

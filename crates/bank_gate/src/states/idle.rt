@@ -31,7 +31,7 @@ impl Model for Idle {
 impl Idle {
     /// The way in: a bank that is to be written.
     pub fn new(place: Place) -> Idle
-        requires { IsPlace place }
+        requires lies { IsPlace place }
         ensures place { result ≡ place }
     {
         Idle { place }
