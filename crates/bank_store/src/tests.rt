@@ -7,8 +7,7 @@ use key_state::ROW;
 use lms_sign::SignKey;
 use lms_verify::{LmsKind, OtsKind};
 use module_record::read_module;
-use std::alloc::Global;
-use std::test::Fail;
+use std::alloc::{AllocError, Global};
 
 // what the key's record begins with: its length, 2, the length of the key, 5 for H5, 3 for W4, and
 // the length of SEED (X.690, section 8.1; RFC 8554, sections 4.1 and 5.1)
@@ -37,114 +36,143 @@ fn is_key(answer: Result<SignKey, KeyFault>) -> bool {
     }
 }
 
-// What a format answers that is cut off behind so many calls, and what is read after the cut. The
-// gate's octet was this one before.
-fn cut_off(
-    alloc: Global,
-    gate: u8,
-    calls: u64,
-    pick: Pick,
-) -> Result<(Result<(), FormatFault>, Result<SignKey, KeyFault>), Fail> {
-    let mut board = MemBoard::new(alloc, 18, Vec::new(alloc), calls.saturating_add(2), 67)?;
-    board.program(0, &[gate])?;
-    board.sync()?;
-    let formatted = format_key(alloc, &mut board, &key_of(1));
-    let mut board = board.stopped(alloc, pick, 3, 0)?;
-    Ok((formatted, open_key(&mut board)))
+// Whether the board is held by the key after a power cut.
+fn holds_when_stopped(alloc: Global, board: MemBoard, pick: Pick) -> Option<bool> {
+    match board.stopped(alloc, pick, 3, 0) {
+        Ok(mut board) => Some(is_key(open_key(&mut board))),
+        Err(_) => None,
+    }
+}
+
+// Whether it is to be held where so many calls of a format weren't made. The gate's octet may be 0F
+// where its block was erased without a sync, and where it was programmed.
+fn is_to_hold(pick: Pick, left: u64) -> bool {
+    match pick {
+        Pick::Keep => left < 2,
+        Pick::Fill(0x0f) => left < 2 || left == 3,
+        _ => left == 0,
+    }
+}
+
+fn has_gate(board: &mut MemBoard, gate: u8) -> bool {
+    board.program(0, &[gate]) == Ok(()) && board.sync() == Ok(())
+}
+
+// Whether a format that is cut off behind so many calls, with so many left, answers a fault, or Ok
+// where none is left, and what is read after the cut is as it is to be. The gate's octet was this one.
+fn is_cut_off(alloc: Global, gate: u8, calls: u64, left: u64, pick: Pick) -> bool {
+    match MemBoard::new(alloc, 18, Vec::new(alloc), calls.saturating_add(2), 67) {
+        Ok(mut board) => {
+            let begun = has_gate(&mut board, gate);
+            let done = format_key(alloc, &mut board, &key_of(1)) == Ok(());
+            holds_when_stopped(alloc, board, pick) == Some(is_to_hold(pick, left))
+                && begun
+                && done == (left == 0)
+        }
+        Err(_) => false,
+    }
 }
 
 // The calls of a format are a sync and a read for a key, the same for a module, then the closing's
 // read, 16 erases, a program, an erase and a sync, and then an erase, a sync, a program and a sync.
-// Where the gate is open, the record is read too for both, and a blank and a sync close it. The
-// gate's octet may be 0F where its block was erased without a sync, and where it was programmed.
+// Where the gate is open, the record is read too for both, and a blank and a sync close it.
 #[test]
-fn is_nobodys_or_formatted(rt: HostRuntime) -> Result<(), Fail> {
+fn is_nobodys_or_formatted(rt: HostRuntime) {
     let alloc = rt.alloc();
     for (gate, last) in [(0xffu8, 28u64), (0x0f, 32)] {
         for calls in 0..=last {
+            let left = last.saturating_sub(calls);
             for pick in [Pick::Keep, Pick::Before, Pick::Fill(0x0f), Pick::Fill(0)] {
-                let (formatted, read) = cut_off(alloc, gate, calls, pick)?;
-                let left = last.saturating_sub(calls);
-                let holds = match pick {
-                    Pick::Keep => left < 2,
-                    Pick::Fill(0x0f) => left < 2 || left == 3,
-                    _ => left == 0,
-                };
-                let answer = if left == 0 {
-                    Ok(())
-                } else {
-                    Err(FormatFault::Fault)
-                };
-                assert_eq!(rt; formatted, answer, "after {calls} calls");
-                assert_eq!(rt; is_key(read), holds, "after {calls} calls");
+                assert!(rt;
+                    is_cut_off(alloc, gate, calls, left, pick),
+                    "after {calls} calls"
+                );
             }
         }
     }
-    Ok(())
 }
 
-#[test]
-fn formats_a_board_once(rt: HostRuntime) -> Result<(), Fail> {
-    let alloc = rt.alloc();
-    let mut board = MemBoard::new(alloc, 18, Vec::new(alloc), 100, 100)?;
-    board.program(ROW, &[0, 0, 0])?;
-    assert_eq!(rt; is_held(alloc, &mut board), Ok(false));
-    assert_eq!(rt; format_key(alloc, &mut board, &key_of(1)), Ok(()));
-    assert_eq!(rt; is_held(alloc, &mut board), Ok(true));
+// Leaves are spent on the board, so many.
+fn spends(board: &mut MemBoard, octets: &[u8; 3]) -> bool {
+    board.blocks() >= 18 && board.program(ROW, octets) == Ok(())
+}
+
+fn row_reads(board: &mut MemBoard, octets: [u8; 4]) -> bool {
     let mut row = [0; 4];
-    board.read(ROW, &mut row)?;
-    assert_eq!(rt; row, [0xff; 4]);
-    board.blank(ROW)?;
-    assert_eq!(rt;
-        format_key(alloc, &mut board, &key_of(3)),
-        Err(FormatFault::AlreadyHeld)
-    );
-    assert!(rt; is_key(open_key(&mut board)));
-    board.read(ROW, &mut row)?;
-    assert_eq!(rt; row, [0, 0xff, 0xff, 0xff]);
-    assert_eq!(rt; board.erase_count(), 18);
-    Ok(())
+    board.blocks() >= 18 && board.read(ROW, &mut row) == Ok(()) && row == octets
+}
+
+fn is_formatted_once(alloc: Global, board: &mut MemBoard) -> bool {
+    spends(board, &[0, 0, 0])
+        && is_held(alloc, board) == Ok(false)
+        && format_key(alloc, board, &key_of(1)) == Ok(())
+        && is_held(alloc, board) == Ok(true)
+        && row_reads(board, [0xff; 4])
+        && spends(board, &[0, 0xff, 0xff])
+        && format_key(alloc, board, &key_of(3)) == Err(FormatFault::AlreadyHeld)
+        && is_key(open_key(board))
+        && row_reads(board, [0, 0xff, 0xff, 0xff])
+        && board.erase_count() == 18
+}
+
+fn formats_a_key_once(alloc: Global) -> bool {
+    match MemBoard::new(alloc, 18, Vec::new(alloc), 100, 100) {
+        Ok(mut board) => is_formatted_once(alloc, &mut board),
+        Err(_) => false,
+    }
+}
+
+fn refuses_17_blocks(alloc: Global) -> bool {
+    match MemBoard::new(alloc, 17, Vec::new(alloc), 100, 100) {
+        Ok(mut board) => {
+            format_key(alloc, &mut board, &key_of(1)) == Err(FormatFault::TooSmall)
+                && !is_key(open_key(&mut board))
+                && board.erase_count() == 0
+        }
+        Err(_) => false,
+    }
 }
 
 #[test]
-fn needs_18_blocks(rt: HostRuntime) -> Result<(), Fail> {
-    let alloc = rt.alloc();
-    let mut board = MemBoard::new(alloc, 17, Vec::new(alloc), 100, 100)?;
-    let formatted = format_key(alloc, &mut board, &key_of(1));
-    assert_eq!(rt; formatted, Err(FormatFault::TooSmall));
-    assert!(rt; !is_key(open_key(&mut board)));
-    assert_eq!(rt; board.erase_count(), 0);
-    Ok(())
+fn formats_a_board_once(rt: HostRuntime) {
+    assert!(rt; formats_a_key_once(rt.alloc()));
+    assert!(rt; refuses_17_blocks(rt.alloc()));
 }
 
-// Whether a board is held that has this octet for its gate, and the record of this number, one
-// octet too far or not, with 00 behind it.
-fn reads_as_key(alloc: Global, gate: u8, moved: bool, number: u8) -> Result<bool, Fail> {
-    let mut board = MemBoard::new(alloc, 18, Vec::new(alloc), 10, 100)?;
+// The record of this number.
+fn record_of(number: u8) -> [u8; 66] {
     let mut record = [0x01; 66];
     record[..15].copy_from_slice(&HEAD);
     record[4] = number;
     record[47..49].copy_from_slice(&[0x04, 0x10]);
     record[49..65].copy_from_slice(&[0x02; 16]);
     record[65] = 0;
-    board.program(0, &[gate])?;
-    board.program(if moved { 4097 } else { 4096 }, &record)?;
-    Ok(is_key(open_key(&mut board)))
+    record
+}
+
+// Whether a key holds the board that has this octet for its gate, and this record, one octet too far or
+// not, with 00 behind it.
+fn holds(board: &mut MemBoard, gate: u8, moved: bool, record: &[u8; 66]) -> bool {
+    let place = if moved { 4097 } else { 4096 };
+    board.blocks() >= 18
+        && board.program(0, &[gate]) == Ok(())
+        && board.program(place, record) == Ok(())
+        && is_key(open_key(board))
+}
+
+fn reads_as_key(alloc: Global, gate: u8, moved: bool, number: u8) -> bool {
+    match MemBoard::new(alloc, 18, Vec::new(alloc), 10, 100) {
+        Ok(mut board) => holds(&mut board, gate, moved, &record_of(number)),
+        Err(_) => false,
+    }
 }
 
 #[test]
-fn reads_gate_and_record(rt: HostRuntime) -> Result<(), Fail> {
-    for (gate, moved, number, held) in [
-        (0x0fu8, false, 2u8, true),
-        (0x0e, false, 2, false),
-        (0xff, false, 2, false),
-        (0x0f, true, 2, false),
-        (0x0f, false, 1, false),
-    ] {
-        let answer = reads_as_key(rt.alloc(), gate, moved, number)?;
-        assert_eq!(rt; answer, held, "gate {gate}, number {number}");
-    }
-    Ok(())
+fn reads_gate_and_record(rt: HostRuntime) {
+    let alloc = rt.alloc();
+    assert!(rt; reads_as_key(alloc, 0x0f, false, 2));
+    assert!(rt; !reads_as_key(alloc, 0x0e, false, 2) && !reads_as_key(alloc, 0xff, false, 2));
+    assert!(rt; !reads_as_key(alloc, 0x0f, true, 2) && !reads_as_key(alloc, 0x0f, false, 1));
 }
 
 // The module 1.2.3 with serial number 0001 and capacity 16, whose anchor is the name root with the
@@ -164,48 +192,67 @@ fn module_record() -> [u8; 167] {
     record
 }
 
-fn format_module(alloc: Global, board: &mut MemBoard) -> Result<Result<(), FormatFault>, Fail>
+// What a format for the module answers.
+fn format_module(
+    alloc: Global,
+    board: &mut MemBoard,
+) -> Result<Option<Result<(), FormatFault>>, AllocError>
     ensures blocks { board.new.blocks ≡ board.old.blocks }
 {
     let record = module_record();
     let Some(holder) = read_module(alloc, &record)? else {
-        return Err("a module".into());
+        return Ok(None);
     };
-    Ok(format(alloc, board, &holder))
+    Ok(Some(format(alloc, board, &holder)))
+}
+
+fn answers_of_module(alloc: Global, board: &mut MemBoard, answer: Result<(), FormatFault>) -> bool {
+    match format_module(alloc, board) {
+        Ok(Some(formatted)) => formatted == answer,
+        Ok(None) => false,
+        Err(_) => false,
+    }
 }
 
 // The gate of bank 0 is open before, over no manifest: nobody holds the board.
-#[test]
-fn formats_a_board_for_a_module(rt: HostRuntime) -> Result<(), Fail> {
-    let alloc = rt.alloc();
-    let mut board = MemBoard::new(alloc, 116, Vec::new(alloc), 100, 1000)?;
-    board.program(0, &[0x0f])?;
-    board.program(4096, &module_record())?;
-    board.program(ROW, &[0, 0, 0])?;
-    board.program(18 * 4096, &[0x0f])?;
-    assert_eq!(rt; is_held(alloc, &mut board), Ok(false));
-    assert_eq!(rt; format_module(alloc, &mut board)?, Ok(()));
-    assert_eq!(rt; is_held(alloc, &mut board), Ok(true));
-    assert_eq!(rt;
-        format_module(alloc, &mut board)?,
-        Err(FormatFault::AlreadyHeld)
-    );
-    assert!(rt; !is_key(open_key(&mut board)));
-    let mut row = [0; 4];
-    board.read(ROW, &mut row)?;
-    assert_eq!(rt; row, [0xff; 4]);
-    assert_eq!(rt; board.erase_count(), 20);
-    Ok(())
+fn has_an_open_bank(board: &mut MemBoard) -> bool {
+    board.blocks() >= 116
+        && board.program(0, &[0x0f]) == Ok(())
+        && board.program(4096, &module_record()) == Ok(())
+        && board.program(18 * 4096, &[0x0f]) == Ok(())
+}
+
+fn is_formatted_for_a_module(alloc: Global, board: &mut MemBoard) -> bool {
+    has_an_open_bank(board)
+        && spends(board, &[0, 0, 0])
+        && is_held(alloc, board) == Ok(false)
+        && answers_of_module(alloc, board, Ok(()))
+        && is_held(alloc, board) == Ok(true)
+        && answers_of_module(alloc, board, Err(FormatFault::AlreadyHeld))
+        && !is_key(open_key(board))
+        && row_reads(board, [0xff; 4])
+        && board.erase_count() == 20
+}
+
+fn formats_for_a_module(alloc: Global) -> bool {
+    match MemBoard::new(alloc, 116, Vec::new(alloc), 100, 1000) {
+        Ok(mut board) => is_formatted_for_a_module(alloc, &mut board),
+        Err(_) => false,
+    }
+}
+
+fn refuses_115_blocks(alloc: Global) -> bool {
+    match MemBoard::new(alloc, 115, Vec::new(alloc), 100, 1000) {
+        Ok(mut board) => {
+            answers_of_module(alloc, &mut board, Err(FormatFault::TooSmall))
+                && board.erase_count() == 0
+        }
+        Err(_) => false,
+    }
 }
 
 #[test]
-fn needs_116_blocks(rt: HostRuntime) -> Result<(), Fail> {
-    let alloc = rt.alloc();
-    let mut board = MemBoard::new(alloc, 115, Vec::new(alloc), 100, 1000)?;
-    assert_eq!(rt;
-        format_module(alloc, &mut board)?,
-        Err(FormatFault::TooSmall)
-    );
-    assert_eq!(rt; board.erase_count(), 0);
-    Ok(())
+fn formats_a_board_for_a_module(rt: HostRuntime) {
+    assert!(rt; formats_for_a_module(rt.alloc()));
+    assert!(rt; refuses_115_blocks(rt.alloc()));
 }
