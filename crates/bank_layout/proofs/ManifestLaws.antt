@@ -119,7 +119,7 @@ parts_valid format m some most kept =
     let es = flat_map (entry_text format) m.state.packages in
     let ss = flat_map stale_entry_text m.state.stale in
     let all = contents_size format m most kept in
-    let t1 = number_text m.sequence ++ (enc 48 es ++ enc 48 ss) in (
+    let t1 = number_text m.sequence ++ (enc 0x30 es ++ enc 0x30 ss) in (
       record {
         sequence = (some, most);
         packages = (
@@ -128,9 +128,9 @@ parts_valid format m some most kept =
             arith,
             all,
             length-append (number_text (format_number format)) t1,
-            length-append (number_text m.sequence) (enc 48 es ++ enc 48 ss),
-            length-append (enc 48 es) (enc 48 ss),
-            length-enc 48 es,
+            length-append (number_text m.sequence) (enc 0x30 es ++ enc 0x30 ss),
+            length-append (enc 0x30 es) (enc 0x30 ss),
+            length-enc 0x30 es,
           ),
         );
         stale = (
@@ -139,9 +139,9 @@ parts_valid format m some most kept =
             arith,
             all,
             length-append (number_text (format_number format)) t1,
-            length-append (number_text m.sequence) (enc 48 es ++ enc 48 ss),
-            length-append (enc 48 es) (enc 48 ss),
-            length-enc 48 ss,
+            length-append (number_text m.sequence) (enc 0x30 es ++ enc 0x30 ss),
+            length-append (enc 0x30 es) (enc 0x30 ss),
+            length-enc 0x30 ss,
           ),
         );
       },
@@ -192,11 +192,11 @@ all_entries format (e ∷ es) v =
 octets_inside : (p : ManifestParts) → AreOctets (parts_text p) → AreOctets p.packages × AreOctets p.stale
 octets_inside p octets =
     let a = AreOctets-right (number_text (format_number p.format)) (number_text p.sequence
-    ++ (enc 48 p.packages ++ enc 48 p.stale)) octets in
-    let b = AreOctets-right (number_text p.sequence) (enc 48 p.packages ++ enc 48 p.stale) a in
-    let c = AreOctets-right (enc 48 p.packages) (enc 48 p.stale) b in (
-      contents_octets 48 p.packages (enc 48 p.stale) (enc 48 p.packages ++ enc 48 p.stale) b refl,
-      contents_octets 48 p.stale [] (enc 48 p.stale) c (sym (bare (enc 48 p.stale))),
+    ++ (enc 0x30 p.packages ++ enc 0x30 p.stale)) octets in
+    let b = AreOctets-right (number_text p.sequence) (enc 0x30 p.packages ++ enc 0x30 p.stale) a in
+    let c = AreOctets-right (enc 0x30 p.packages) (enc 0x30 p.stale) b in (
+      contents_octets 48 p.packages (enc 0x30 p.stale) (enc 0x30 p.packages ++ enc 0x30 p.stale) b refl,
+      contents_octets 48 p.stale [] (enc 0x30 p.stale) c (sym (bare (enc 0x30 p.stale))),
     )
 
 pub reads_begins : (capacity : ℕ) (bytes : List ℕ) (p : ManifestParts) (rest : List ℕ) (state : State Stored)
@@ -228,10 +228,10 @@ reads_begins capacity bytes p rest state of_module octets read packages stale ow
       fits = all.1;
       rest = rest;
       text = t.1
-          ∙ ap (λ (l : List ℕ). enc 48 (number_text (format_number p.format) ++ (number_text p.sequence
-          ++ (enc 48 l ++ enc 48 p.stale))) ++ rest) es.1
-          ∙ ap (λ (l : List ℕ). enc 48 (number_text (format_number p.format) ++ (number_text p.sequence
-          ++ (enc 48 (flat_map (entry_text p.format) state.packages) ++ enc 48 l))) ++ rest) ss.1;
+          ∙ ap (λ (l : List ℕ). enc 0x30 (number_text (format_number p.format) ++ (number_text p.sequence
+          ++ (enc 0x30 l ++ enc 0x30 p.stale))) ++ rest) es.1
+          ∙ ap (λ (l : List ℕ). enc 0x30 (number_text (format_number p.format) ++ (number_text p.sequence
+          ++ (enc 0x30 (flat_map (entry_text p.format) state.packages) ++ enc 0x30 l))) ++ rest) ss.1;
     }
 
 -- ---- what the reader answers

@@ -355,12 +355,12 @@ parts_valid format e v = (
 octets_inside : (format : Format) (p : PackageParts) → AreParts format p → AreOctets (parts_text format p)
     → AreOctets p.blocks × AreOctets p.needs
 octets_inside format p are octets =
-    let a = AreOctets-right (name_text p.name) (enc 4 p.digest ++ (number_text p.length
-    ++ (enc 4 p.blocks ++ info_text format (p.kind, p.needs)))) octets in
-    let b = AreOctets-right (enc 4 p.digest) (number_text p.length
-    ++ (enc 4 p.blocks ++ info_text format (p.kind, p.needs))) a in
-    let c = AreOctets-right (number_text p.length) (enc 4 p.blocks ++ info_text format (p.kind, p.needs)) b in
-    let d = AreOctets-right (enc 4 p.blocks) (info_text format (p.kind, p.needs)) c in
+    let a = AreOctets-right (name_text p.name) (enc 0x04 p.digest ++ (number_text p.length
+    ++ (enc 0x04 p.blocks ++ info_text format (p.kind, p.needs)))) octets in
+    let b = AreOctets-right (enc 0x04 p.digest) (number_text p.length
+    ++ (enc 0x04 p.blocks ++ info_text format (p.kind, p.needs))) a in
+    let c = AreOctets-right (number_text p.length) (enc 0x04 p.blocks ++ info_text format (p.kind, p.needs)) b in
+    let d = AreOctets-right (enc 0x04 p.blocks) (info_text format (p.kind, p.needs)) c in
     (contents_octets 4 p.blocks (info_text format (p.kind, p.needs)) _ c refl, inside format are.info d)
   where
     none : (i : ℕ) → AreOctets []

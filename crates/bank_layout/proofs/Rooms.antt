@@ -19,32 +19,32 @@ pub blocks_room : (format : Format) (e : Entry Stored) → HasRoom (entry_conten
     → HasRoom (blocks_contents e.image.blocks)
 blocks_room format e room =
     let c = blocks_contents e.image.blocks in
-    let p2 = enc 4 c ++ added_text format e in
+    let p2 = enc 0x04 c ++ added_text format e in
     let p1 = number_text e.image.length ++ p2 in
-    let p0 = enc 4 e.digest ++ p1 in
+    let p0 = enc 0x04 e.digest ++ p1 in
     omega (
       arith,
       room,
       length-append (name_text e.name) p0,
-      length-append (enc 4 e.digest) p1,
+      length-append (enc 0x04 e.digest) p1,
       length-append (number_text e.image.length) p2,
-      length-append (enc 4 c) (added_text format e),
-      length-enc 4 c,
+      length-append (enc 0x04 c) (added_text format e),
+      length-enc 0x04 c,
     )
 
 pub added_room : (format : Format) (e : Entry Stored) → HasRoom (entry_contents format e) → HasRoom (added_text format e)
 added_room format e room =
     let c = blocks_contents e.image.blocks in
-    let p2 = enc 4 c ++ added_text format e in
+    let p2 = enc 0x04 c ++ added_text format e in
     let p1 = number_text e.image.length ++ p2 in
-    let p0 = enc 4 e.digest ++ p1 in
+    let p0 = enc 0x04 e.digest ++ p1 in
     omega (
       arith,
       room,
       length-append (name_text e.name) p0,
-      length-append (enc 4 e.digest) p1,
+      length-append (enc 0x04 e.digest) p1,
       length-append (number_text e.image.length) p2,
-      length-append (enc 4 c) (added_text format e),
+      length-append (enc 0x04 c) (added_text format e),
     )
 
 pub needs_room : (e : Entry Stored) → HasRoom (entry_contents formats.Two e) → HasRoom (flat_map name_text e.needs)
@@ -84,10 +84,10 @@ packages_room format m room =
     omega (
       arith,
       room,
-      length-append (number_text (format_number format)) (number_text m.sequence ++ (enc 48 es ++ enc 48 ss)),
-      length-append (number_text m.sequence) (enc 48 es ++ enc 48 ss),
-      length-append (enc 48 es) (enc 48 ss),
-      length-enc 48 es,
+      length-append (number_text (format_number format)) (number_text m.sequence ++ (enc 0x30 es ++ enc 0x30 ss)),
+      length-append (number_text m.sequence) (enc 0x30 es ++ enc 0x30 ss),
+      length-append (enc 0x30 es) (enc 0x30 ss),
+      length-enc 0x30 es,
     )
 
 pub stale_room : (format : Format) (m : Manifest) → HasRoom (manifest_contents format m)
@@ -98,8 +98,8 @@ stale_room format m room =
     omega (
       arith,
       room,
-      length-append (number_text (format_number format)) (number_text m.sequence ++ (enc 48 es ++ enc 48 ss)),
-      length-append (number_text m.sequence) (enc 48 es ++ enc 48 ss),
-      length-append (enc 48 es) (enc 48 ss),
-      length-enc 48 ss,
+      length-append (number_text (format_number format)) (number_text m.sequence ++ (enc 0x30 es ++ enc 0x30 ss)),
+      length-append (number_text m.sequence) (enc 0x30 es ++ enc 0x30 ss),
+      length-append (enc 0x30 es) (enc 0x30 ss),
+      length-enc 0x30 ss,
     )

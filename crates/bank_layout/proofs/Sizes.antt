@@ -66,7 +66,7 @@ added_size formats.Two e v =
       needs,
       v.few_needs,
       length-enc-le 48 (flat_map name_text e.needs) (omega (arith, needs, v.few_needs)),
-      length-append (text_if kind_text e.kind) (enc 48 (flat_map name_text e.needs)),
+      length-append (text_if kind_text e.kind) (enc 0x30 (flat_map name_text e.needs)),
     )
 
 pub entry_size : (format : Format) (e : Entry Stored) → IsEntry e → length e.image.blocks ≤ 4096
@@ -80,7 +80,7 @@ entry_size format e v few =
     let s2 : length p2 ≤ 827 + 2 * length e.image.blocks =
     omega (
       arith,
-      length-append (enc 4 c) (added_text format e),
+      length-append (enc 0x04 c) (added_text format e),
       added_size format e v,
       blocks_size e.image.blocks,
       length-enc-le 4 c (omega (arith, blocks_size e.image.blocks, few)),
@@ -88,7 +88,7 @@ entry_size format e v few =
     let s1 : length p1 ≤ 850 + 2 * length e.image.blocks =
     omega (arith, s2, number_size e.image.length long, length-append (number_text e.image.length) p2) in
     let s0 : length p0 ≤ 888 + 2 * length e.image.blocks =
-    omega (arith, s1, v.digest, length-append (enc 4 e.digest) p1, length-enc-le 4 e.digest (omega (arith, v.digest))) in
+    omega (arith, s1, v.digest, length-append (enc 0x04 e.digest) p1, length-enc-le 4 e.digest (omega (arith, v.digest))) in
     let all : length (name_text e.name ++ p0) ≤ 987 + 2 * length e.image.blocks =
     omega (arith, s0, name_length e.name v.name, length-append (name_text e.name) p0) in
     omega (arith, all, length-enc-le 48 (name_text e.name ++ p0) (omega (arith, all, few)))
@@ -135,7 +135,7 @@ contents_size format m most kept =
     let ss = flat_map stale_entry_text m.state.stale in
     let es-size = packages_size format m.state kept in
     let ss-size = stale_entries_size m.state kept in
-    let t2 = enc 48 es ++ enc 48 ss in
+    let t2 = enc 0x30 es ++ enc 0x30 ss in
     let t1 = number_text m.sequence ++ t2 in
     omega (
       arith,
@@ -143,7 +143,7 @@ contents_size format m most kept =
       length-enc-le 48 ss (omega (arith, ss-size)),
       es-size,
       ss-size,
-      length-append (enc 48 es) (enc 48 ss),
+      length-append (enc 0x30 es) (enc 0x30 ss),
       number_size m.sequence (omega (arith, most)),
       length-append (number_text m.sequence) t2,
       number_size (format_number format) (format_small format),

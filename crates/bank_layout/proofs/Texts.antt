@@ -51,19 +51,19 @@ module _ (tag tag' : ℕ) (octet : tag < 256) (octet' : tag' < 256) (low : tag %
       (record { octet = octet'; low_bits = low'; fits = fits tag' d s (too (enc tag c ++ r) (enc tag' d ++ s) is short) })
       is
 
-one_2 : (c d r s : List ℕ) → Short (enc 2 c ++ r) → enc 2 c ++ r ≡ enc 2 d ++ s → (c ≡ d) × (r ≡ s)
+one_2 : (c d r s : List ℕ) → Short (enc 0x02 c ++ r) → enc 0x02 c ++ r ≡ enc 0x02 d ++ s → (c ≡ d) × (r ≡ s)
 one_2 c d r s short is = let x = any_one 2 2 (omega arith) (omega arith) (omega arith) (omega arith) c d r s short is in (x.1, x.2)
 
-one_4 : (c d r s : List ℕ) → Short (enc 4 c ++ r) → enc 4 c ++ r ≡ enc 4 d ++ s → (c ≡ d) × (r ≡ s)
+one_4 : (c d r s : List ℕ) → Short (enc 0x04 c ++ r) → enc 0x04 c ++ r ≡ enc 0x04 d ++ s → (c ≡ d) × (r ≡ s)
 one_4 c d r s short is = let x = any_one 4 4 (omega arith) (omega arith) (omega arith) (omega arith) c d r s short is in (x.1, x.2)
 
-one_6 : (c d r s : List ℕ) → Short (enc 6 c ++ r) → enc 6 c ++ r ≡ enc 6 d ++ s → (c ≡ d) × (r ≡ s)
+one_6 : (c d r s : List ℕ) → Short (enc 0x06 c ++ r) → enc 0x06 c ++ r ≡ enc 0x06 d ++ s → (c ≡ d) × (r ≡ s)
 one_6 c d r s short is = let x = any_one 6 6 (omega arith) (omega arith) (omega arith) (omega arith) c d r s short is in (x.1, x.2)
 
-one_48 : (c d r s : List ℕ) → Short (enc 48 c ++ r) → enc 48 c ++ r ≡ enc 48 d ++ s → (c ≡ d) × (r ≡ s)
+one_48 : (c d r s : List ℕ) → Short (enc 0x30 c ++ r) → enc 0x30 c ++ r ≡ enc 0x30 d ++ s → (c ≡ d) × (r ≡ s)
 one_48 c d r s short is = let x = any_one 48 48 (omega arith) (omega arith) (omega arith) (omega arith) c d r s short is in (x.1, x.2)
 
-not_2_48 : (c d r s : List ℕ) → Short (enc 2 c ++ r) → enc 2 c ++ r ≡ enc 48 d ++ s → ⊥
+not_2_48 : (c d r s : List ℕ) → Short (enc 0x02 c ++ r) → enc 0x02 c ++ r ≡ enc 0x30 d ++ s → ⊥
 not_2_48 c d r s short is =
     let x = any_one 2 48 (omega arith) (omega arith) (omega arith) (omega arith) c d r s short is in omega (arith, x.0)
 
@@ -73,10 +73,10 @@ bare [] = refl
 bare (x ∷ xs) = ap (λ (l : List ℕ). x ∷ l) (bare xs)
 
 -- an element that is all
-alone_48 : (c d : List ℕ) → Short (enc 48 c) → enc 48 c ≡ enc 48 d → c ≡ d
+alone_48 : (c d : List ℕ) → Short (enc 0x30 c) → enc 0x30 c ≡ enc 0x30 d → c ≡ d
 alone_48 c d short is =
-    (one_48 c d [] [] (too (enc 48 c) (enc 48 c ++ []) (sym (bare (enc 48 c))) short)
-    (bare (enc 48 c) ∙ is ∙ sym (bare (enc 48 d)))).0
+    (one_48 c d [] [] (too (enc 0x30 c) (enc 0x30 c ++ []) (sym (bare (enc 0x30 c))) short)
+    (bare (enc 0x30 c) ∙ is ∙ sym (bare (enc 0x30 d)))).0
 
 number_ends : (x y : ℕ) (r s : List ℕ) → Short (number_text x ++ r) → number_text x ++ r ≡ number_text y ++ s
     → (x ≡ y) × (r ≡ s)
@@ -107,7 +107,7 @@ pub enc_some : (tag : ℕ) (c : List ℕ) → 0 < length (enc tag c)
 enc_some tag c = omega (arith, length-enc tag c)
 
 pub name_some : (n : PackageName) → 0 < length (name_text n)
-name_some (names.Preferred id version) = enc_some 48 (enc 6 id ++ enc 2 (number_contents version))
+name_some (names.Preferred id version) = enc_some 48 (enc 0x06 id ++ enc 0x02 (number_contents version))
 name_some (names.Legacy octets) = enc_some 4 octets
 
 -- ---- block numbers
@@ -131,30 +131,30 @@ names_one = list_one name_text IsName name_ends (λ n _. name_some n)
 
 -- a kind, if there is one, and needs
 needs_part : List PackageName → List ℕ
-needs_part needs = enc 48 (flat_map name_text needs)
+needs_part needs = enc 0x30 (flat_map name_text needs)
 
 added_one : (k l : Option ℕ) (xs ys : List PackageName) → AllByRecursion IsName xs → AllByRecursion IsName ys
-    → Short (text_if kind_text k ++ enc 48 (flat_map name_text xs))
-    → text_if kind_text k ++ enc 48 (flat_map name_text xs) ≡ text_if kind_text l ++ enc 48 (flat_map name_text ys)
+    → Short (text_if kind_text k ++ enc 0x30 (flat_map name_text xs))
+    → text_if kind_text k ++ enc 0x30 (flat_map name_text xs) ≡ text_if kind_text l ++ enc 0x30 (flat_map name_text ys)
     → (k ≡ l) × (xs ≡ ys)
 added_one None None xs ys vx vy short is =
     let c = flat_map name_text xs in
     let d = flat_map name_text ys in
     let same = alone_48 c d short is in
-    (refl, names_one xs ys vx vy (omega (arith, short, length-enc 48 c)) same)
+    (refl, names_one xs ys vx vy (omega (arith, short, length-enc 0x30 c)) same)
 added_one None (Some l) xs ys vx vy short is =
-    absurd (not_2_48 (number_contents l) (flat_map name_text xs) (enc 48 (flat_map name_text ys)) []
-    (too (enc 48 (flat_map name_text xs)) (kind_text l ++ enc 48 (flat_map name_text ys)) is short)
-    (sym is ∙ sym (bare (enc 48 (flat_map name_text xs)))))
+    absurd (not_2_48 (number_contents l) (flat_map name_text xs) (enc 0x30 (flat_map name_text ys)) []
+    (too (enc 0x30 (flat_map name_text xs)) (kind_text l ++ enc 0x30 (flat_map name_text ys)) is short)
+    (sym is ∙ sym (bare (enc 0x30 (flat_map name_text xs)))))
 added_one (Some k) None xs ys vx vy short is =
-    absurd (not_2_48 (number_contents k) (flat_map name_text ys) (enc 48 (flat_map name_text xs)) [] short
-    (is ∙ sym (bare (enc 48 (flat_map name_text ys)))))
+    absurd (not_2_48 (number_contents k) (flat_map name_text ys) (enc 0x30 (flat_map name_text xs)) [] short
+    (is ∙ sym (bare (enc 0x30 (flat_map name_text ys)))))
 added_one (Some k) (Some l) xs ys vx vy short is =
-    let e = number_ends k l (enc 48 (flat_map name_text xs)) (enc 48 (flat_map name_text ys)) short is in
+    let e = number_ends k l (enc 0x30 (flat_map name_text xs)) (enc 0x30 (flat_map name_text ys)) short is in
     let c = flat_map name_text xs in
     let d = flat_map name_text ys in
-    let after : Short (enc 48 c) = rest_short (kind_text k) (enc 48 c) short in
-    (ap Some e.0, names_one xs ys vx vy (omega (arith, after, length-enc 48 c)) (alone_48 c d after e.1))
+    let after : Short (enc 0x30 c) = rest_short (kind_text k) (enc 0x30 c) short in
+    (ap Some e.0, names_one xs ys vx vy (omega (arith, after, length-enc 0x30 c)) (alone_48 c d after e.1))
 
 abbrev pub IsEntryOf : Format → Entry Stored → Type 0
 IsEntryOf format entry = IsEntry entry × FitsFormat format entry
@@ -181,12 +181,12 @@ entry_one format x y vx vy short is =
     let a = name_ends x.name y.name (part_0 format x) (part_0 format y) vx.0.name vy.0.name short is in
     let s0 = rest_short (name_text x.name) (part_0 format x) short in
     let b = one_4 x.digest y.digest (part_1 format x) (part_1 format y) s0 a.1 in
-    let s1 = rest_short (enc 4 x.digest) (part_1 format x) s0 in
+    let s1 = rest_short (enc 0x04 x.digest) (part_1 format x) s0 in
     let c = number_ends x.image.length y.image.length (part_2 format x) (part_2 format y) s1 b.1 in
     let s2 = rest_short (number_text x.image.length) (part_2 format x) s1 in
     let d = one_4 (blocks_contents x.image.blocks) (blocks_contents y.image.blocks) (added_text format x)
     (added_text format y) s2 c.1 in
-    let s3 = rest_short (enc 4 (blocks_contents x.image.blocks)) (added_text format x) s2 in
+    let s3 = rest_short (enc 0x04 (blocks_contents x.image.blocks)) (added_text format x) s2 in
     let blocks = blocks_one x.image.blocks y.image.blocks d.0 in
     let e = added_same format x y vx vy s3 d.1 in
     λ i. record {
@@ -255,7 +255,7 @@ tails_one format m n vm vn sm sn short is =
     let cm = flat_map (entry_text format) m.state.packages in
     let cn = flat_map (entry_text format) n.state.packages in
     let b = one_48 cm cn (tail_2 m) (tail_2 n) s1 a.1 in
-    let s2 = rest_short (enc 48 cm) (tail_2 m) s1 in
+    let s2 = rest_short (enc 0x30 cm) (tail_2 m) s1 in
     let dm = flat_map stale_entry_text m.state.stale in
     let dn = flat_map stale_entry_text n.state.stale in
     let c = alone_48 dm dn s2 b.1 in
@@ -263,7 +263,7 @@ tails_one format m n vm vn sm sn short is =
     (λ x _. enc_some 48 (name_text x.name ++ part_0 format x))
     m.state.packages n.state.packages vm vn (fits 48 cm (tail_2 m) s1) b.0 in
     let stale = list_one stale_entry_text IsStaleName stale_ends (λ x _. name_some (last_stale x))
-    m.state.stale n.state.stale sm sn (omega (arith, s2, length-enc 48 dm)) c in
+    m.state.stale n.state.stale sm sn (omega (arith, s2, length-enc 0x30 dm)) c in
     λ i. record { sequence = a.0 i; state = record { packages = packages i; stale = stale i } }
 
 pub one_manifest : (capacity : ℕ) (octets : List ℕ) (m n : Manifest) → length octets ≤ 131072
@@ -271,7 +271,7 @@ pub one_manifest : (capacity : ℕ) (octets : List ℕ) (m n : Manifest) → len
 one_manifest capacity octets m n few bm bn =
     let wm = number_text (format_number bm.format) ++ tail_0 bm.format m in
     let wn = number_text (format_number bn.format) ++ tail_0 bn.format n in
-    let short : Short (enc 48 wm ++ bm.rest) = omega (arith, few, ap length bm.text) in
+    let short : Short (enc 0x30 wm ++ bm.rest) = omega (arith, few, ap length bm.text) in
     let whole = one_48 wm wn bm.rest bn.rest short (sym bm.text ∙ bn.text) in
     let s = fits 48 wm bm.rest short in
     let head = number_ends (format_number bm.format) (format_number bn.format) (tail_0 bm.format m)

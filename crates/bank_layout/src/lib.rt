@@ -39,7 +39,6 @@ mod bank;
 mod format;
 mod laws;
 mod layout;
-mod name;
 mod named;
 mod package;
 mod reading;

@@ -9,10 +9,10 @@ ghost use Rattle.bank_layout.specs.Reading.{digest_at, length_at, blocks_at, lis
 ghost use Rattle.bank_layout.specs.ReadingView.{package_parts};
 
 use crate::format::Format;
-use crate::name::read_name;
 use config_table::{BlockNumbers, Installed};
+use content_stream::blocks_for;
 use der_core::{Cursor, read_u128, tags};
-use package_attrs::{Names, PackageName};
+use package_attrs::{Names, PackageName, read_name};
 use std::alloc::{AllocError, Global};
 
 // How many packages a package needs at most.
@@ -190,7 +190,7 @@ fn read_needs(alloc: Global, octets: &[u8]) -> Result<Option<Names>, AllocError>
 fn has_its_blocks(size: u32, blocks: &[u8]) -> bool
     ensures exact { result ≡ (nat_lt 0 size && (length blocks.now == 2 * blocks_for size)) }
 {
-    size > 0 && blocks.len() == 2 * ((size as usize + 4095) / 4096)
+    size > 0 && blocks.len() == 2 * blocks_for(size) as usize
 }
 
 // The package with these parts.

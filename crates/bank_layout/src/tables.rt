@@ -9,11 +9,10 @@ ghost use Rattle.bank_layout.specs.Reading.{stale_at, stale_from};
 ghost use Rattle.bank_layout.specs.Tables.{ReadsPackages, ReadsStale};
 
 use crate::format::Format;
-use crate::name::read_name;
 use crate::package::read_package;
 use config_table::{StaleEntry, State};
 use der_core::Cursor;
-use package_attrs::PackageName;
+use package_attrs::{PackageName, read_name};
 use std::alloc::{AllocError, Global};
 
 // How many packages and how many stale entries there are at most.

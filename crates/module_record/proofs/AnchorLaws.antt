@@ -27,7 +27,7 @@ use Rattle.std.proofs.Common.{append_assoc}
 -- ---- parts
 
 abbrev pub parts_contents : AnchorParts → List ℕ
-parts_contents p = p.subject ++ (enc 4 p.key_id ++ (enc 4 p.key ++ text_if (enc 0xA0) p.constraints))
+parts_contents p = p.subject ++ (enc 0x04 p.key_id ++ (enc 0x04 p.key ++ text_if (enc 0xA0) p.constraints))
 
 abbrev pub parts_text : AnchorParts → List ℕ
 parts_text p = enc 0x30 (parts_contents p)
@@ -103,7 +103,7 @@ tagged_text (Some entries) = refl
 parts_contents_of : (a : TrustAnchor) → parts_contents (parts_of a) ≡ anchor_contents a
 unfolding parts_of
 parts_contents_of a =
-    ap (λ (last : List ℕ). a.subject ++ (enc 4 a.key_id ++ (enc 4 a.key ++ last))) (sym (tagged_text a.constraints))
+    ap (λ (last : List ℕ). a.subject ++ (enc 0x04 a.key_id ++ (enc 0x04 a.key ++ last))) (sym (tagged_text a.constraints))
 
 pub parts_text_of : (a : TrustAnchor) → parts_text (parts_of a) ≡ anchor_text a
 parts_text_of a = ap (enc 0x30) (parts_contents_of a)

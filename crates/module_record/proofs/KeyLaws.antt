@@ -31,8 +31,8 @@ use Rattle.module_record.proofs.KindLaws.{ots_kind_of-kind, ots_kind_of-some, va
 
 abbrev pub fields_text : KeyParts → List ℕ
 fields_text p =
-    enc 2 (number_contents (lms_number p.kind)) ++ (enc 2 (number_contents (ots_number p.ots))
-    ++ (enc 4 p.seed ++ enc 4 p.id))
+    enc 0x02 (number_contents (lms_number p.kind)) ++ (enc 0x02 (number_contents (ots_number p.ots))
+    ++ (enc 0x04 p.seed ++ enc 0x04 p.id))
 
 abbrev pub AreKeyFields : KeyParts → Type 0
 AreKeyFields p = (height p.kind ≤ 10) × (length p.seed ≡ 32) × (length p.id ≡ 16)
@@ -40,7 +40,7 @@ AreKeyFields p = (height p.kind ≤ 10) × (length p.seed ≡ 32) × (length p.i
 abbrev IsLow : LmsKind → Type 0
 IsLow kind = height kind ≤ 10
 
-tree-front : IsFront (λ kind. enc 2 (number_contents (lms_number kind))) IsLow (element 2
+tree-front : IsFront (λ kind. enc 0x02 (number_contents (lms_number kind))) IsLow (element 0x02
     (valued tree_kind_of number_of))
 tree-front =
     element-front 2 (is_tag 2 refl)
@@ -48,7 +48,7 @@ tree-front =
     (valued-whole tree_kind_of lms_number tree_kind_of-some
     (λ kind low. (omega (arith, lms_small kind), tree_kind_of-kind kind low)))
 
-ots-front : IsFront (λ ots. enc 2 (number_contents (ots_number ots))) (λ _. Unit {0}) (element 2
+ots-front : IsFront (λ ots. enc 0x02 (number_contents (ots_number ots))) (λ _. Unit {0}) (element 0x02
     (valued ots_kind_of number_of))
 ots-front =
     element-front 2 (is_tag 2 refl)
@@ -57,7 +57,7 @@ ots-front =
     (λ ots any. (omega (arith, ots_small ots), ots_kind_of-kind ots)))
 
 pub sized-front : (size : ℕ) → size < 2 ^ 32
-    → IsFront (λ (octets : List ℕ). enc 4 octets) (λ octets. length octets ≡ size) (element 4 (sized size))
+    → IsFront (λ (octets : List ℕ). enc 0x04 octets) (λ octets. length octets ≡ size) (element 0x04 (sized size))
 sized-front size small =
     same-front (λ octets h. (eqb-true (length octets) size h.1, refl))
     (λ octets h. (tt, eq-eqb (length octets) size h))
@@ -100,8 +100,8 @@ ots_octet W8 = refl
 
 fields_size : (p : KeyParts) → AreKeyFields p → length (fields_text p) ≡ 58
 fields_size p h =
-    let kind-text = enc 2 (number_contents (lms_number p.kind)) in
-    let ots-text = enc 2 (number_contents (ots_number p.ots)) in
+    let kind-text = enc 0x02 (number_contents (lms_number p.kind)) in
+    let ots-text = enc 0x02 (number_contents (ots_number p.ots)) in
     let kind-size : length kind-text ≡ 3 =
     omega (
       arith,
@@ -111,21 +111,21 @@ fields_size p h =
     ) in
     let ots-size : length ots-text ≡ 3 =
     omega (arith, ots_octet p.ots, short_enc 2 (number_contents (ots_number p.ots)) (omega (arith, ots_octet p.ots))) in
-    let seed-size : length (enc 4 p.seed) ≡ 34 = omega (arith, h.1, short_enc 4 p.seed (omega (arith, h.1))) in
-    let id-size : length (enc 4 p.id) ≡ 18 = omega (arith, h.2, short_enc 4 p.id (omega (arith, h.2))) in
+    let seed-size : length (enc 0x04 p.seed) ≡ 34 = omega (arith, h.1, short_enc 4 p.seed (omega (arith, h.1))) in
+    let id-size : length (enc 0x04 p.id) ≡ 18 = omega (arith, h.2, short_enc 4 p.id (omega (arith, h.2))) in
     omega (
       arith,
       kind-size,
       ots-size,
       seed-size,
       id-size,
-      length-append kind-text (ots-text ++ (enc 4 p.seed ++ enc 4 p.id)),
-      length-append ots-text (enc 4 p.seed ++ enc 4 p.id),
-      length-append (enc 4 p.seed) (enc 4 p.id),
+      length-append kind-text (ots-text ++ (enc 0x04 p.seed ++ enc 0x04 p.id)),
+      length-append ots-text (enc 0x04 p.seed ++ enc 0x04 p.id),
+      length-append (enc 0x04 p.seed) (enc 0x04 p.id),
     )
 
 abbrev pub key_parts_text : KeyParts → List ℕ
-key_parts_text p = enc 48 (fields_text p)
+key_parts_text p = enc 0x30 (fields_text p)
 
 parts_size : (p : KeyParts) → AreKeyFields p → length (key_parts_text p) ≡ 60
 parts_size p h = omega (arith, fields_size p h, short_enc 48 (fields_text p) (omega (arith, fields_size p h)))
@@ -137,7 +137,7 @@ key-front = element-front 48 (is_tag 48 refl) (λ p h. omega (arith, fields_size
 -- ---- key records
 
 abbrev contents_text : KeyParts → List ℕ
-contents_text p = enc 2 (number_contents 2) ++ key_parts_text p
+contents_text p = enc 0x02 (number_contents 2) ++ key_parts_text p
 
 contents_size : (p : KeyParts) → AreKeyFields p → length (contents_text p) ≡ 63
 contents_size p h =
@@ -145,7 +145,7 @@ contents_size p h =
     omega (
       arith,
       parts_size p h,
-      length-append (enc 2 (number_contents 2)) (key_parts_text p),
+      length-append (enc 0x02 (number_contents 2)) (key_parts_text p),
       octet,
       short_enc 2
           (number_contents 2) (omega (arith, octet)),
@@ -155,14 +155,14 @@ record-whole : IsWhole contents_text AreKeyFields record_of
 unfolding record_of
 record-whole =
     mapped-whole (λ x. x.1)
-    (λ x h. (h.1, ap (λ (n : ℕ). enc 2 (number_contents n) ++ key_parts_text x.1) (eqb-true x.0 2 h.0.1)))
+    (λ x h. (h.1, ap (λ (n : ℕ). enc 0x02 (number_contents n) ++ key_parts_text x.1) (eqb-true x.0 2 h.0.1)))
     (λ p h. ((2, p), ((omega arith, refl), h), refl))
     (before-whole (element-front 2 (is_tag 2 refl) (λ n h. omega (arith, length-number-le n h.0)) (tested-whole
     (λ n. n == 2) number-whole))
     (alone-whole key-front))
 
 abbrev pub record_text : KeyParts → List ℕ
-record_text p = enc 48 (contents_text p)
+record_text p = enc 0x30 (contents_text p)
 
 pub record-front : IsFront record_text AreKeyFields key_record_at
 unfolding key_record_at
@@ -202,12 +202,12 @@ fields_fit key seed id = omega (arith, fields_size (view key) (key.low, seed, id
 
 -- and so does what a record holds
 pub contents_fit : (key : SignKey) → length (key_text key) ≡ 60
-    → length (enc 2 (number_contents 2) ++ key_text key) < 2 ^ 32
+    → length (enc 0x02 (number_contents 2) ++ key_text key) < 2 ^ 32
 contents_fit key size =
     omega (
       arith,
       size,
-      length-append (enc 2 (number_contents 2)) (key_text key),
+      length-append (enc 0x02 (number_contents 2)) (key_text key),
       length-enc-le 2 (number_contents 2)
           (omega (arith, length-number-le 2 (omega arith))),
       length-number-le 2 (omega arith),

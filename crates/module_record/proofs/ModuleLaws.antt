@@ -49,12 +49,12 @@ pub number-front : IsFront number_text (λ n. n < 2 ^ 128) number_at
 unfolding number_at
 number-front = element-front 2 (is_tag 2 refl) (λ n h. omega (arith, length-number-le n h)) number-whole
 
-serial-front : IsFront (λ (octets : List ℕ). enc 4 octets) (λ octets. (0 < length octets) × (length octets ≤ 64))
+serial-front : IsFront (λ (octets : List ℕ). enc 0x04 octets) (λ octets. (0 < length octets) × (length octets ≤ 64))
     serial_at
 unfolding serial_at
 serial-front = element-front 4 (is_tag 4 refl) (λ octets h. omega (arith, h.1)) octets-whole
 
-sequence-front : IsFront (λ (contents : List ℕ). enc 48 contents) HasRoom sequence_at
+sequence-front : IsFront (λ (contents : List ℕ). enc 0x30 contents) HasRoom sequence_at
 unfolding sequence_at
 sequence-front = raw-front 48 (is_tag 48 refl)
 
@@ -99,8 +99,8 @@ kinds-whole = tested-whole (λ kinds. leb (length kinds) 64) (listed-whole numbe
 
 abbrev lists_text : ListParts → List ℕ
 lists_text l =
-    enc 48 l.communities
-    ++ (enc 48 l.kinds ++ (number_text l.capacity ++ (enc 48 l.anchors ++ key_parts_text l.key)))
+    enc 0x30 l.communities
+    ++ (enc 0x30 l.kinds ++ (number_text l.capacity ++ (enc 0x30 l.anchors ++ key_parts_text l.key)))
 
 pub record AreListParts (l : ListParts) : Type 0 where
   pub communities : HasRoom l.communities
@@ -140,7 +140,7 @@ lists-whole =
     (before-whole capacity-front (before-whole sequence-front (alone-whole key-front)))))
 
 abbrev parts_contents : ModuleParts → List ℕ
-parts_contents p = number_text 1 ++ (oid_text p.hw_type ++ (enc 4 p.serial ++ lists_text p.lists))
+parts_contents p = number_text 1 ++ (oid_text p.hw_type ++ (enc 0x04 p.serial ++ lists_text p.lists))
 
 pub record ArePartsInside (p : ModuleParts) : Type 0 where
   pub hw_type : IsOid p.hw_type
@@ -154,7 +154,7 @@ inside-whole =
     (λ x. record { hw_type = x.1.0; serial = x.1.1.0; lists = x.1.1.1 })
     (λ x h. (
       record { hw_type = h.1.0; serial = h.1.1.0; lists = h.1.1.1 },
-      ap (λ (n : ℕ). number_text n ++ (oid_text x.1.0 ++ (enc 4 x.1.1.0 ++ lists_text x.1.1.1)))
+      ap (λ (n : ℕ). number_text n ++ (oid_text x.1.0 ++ (enc 0x04 x.1.1.0 ++ lists_text x.1.1.1)))
           (eqb-true x.0 1 h.0.1),
     ))
     (λ p h. (
@@ -164,7 +164,7 @@ inside-whole =
     ))
     (before-whole one-front (before-whole oid-front (before-whole serial-front lists-whole)))
 
-module-front : IsFront (λ p. enc 48 (parts_contents p)) (λ p. ArePartsInside p × HasRoom (parts_contents p)) module_at
+module-front : IsFront (λ p. enc 0x30 (parts_contents p)) (λ p. ArePartsInside p × HasRoom (parts_contents p)) module_at
 unfolding module_at
 module-front = sized-element-front 48 (is_tag 48 refl) inside-whole
 
@@ -188,14 +188,14 @@ unfolding parts_of_module
 parts_contents_of m = refl
 
 -- room for what stands between a front and a rest
-room_between : (front contents rest : List ℕ) → HasRoom (front ++ (enc 48 contents ++ rest)) → HasRoom contents
+room_between : (front contents rest : List ℕ) → HasRoom (front ++ (enc 0x30 contents ++ rest)) → HasRoom contents
 room_between front contents rest room =
     omega (
       arith,
       room,
-      length-append front (enc 48 contents ++ rest),
-      length-append (enc 48 contents) rest,
-      length-enc 48 contents,
+      length-append front (enc 0x30 contents ++ rest),
+      length-append (enc 0x30 contents) rest,
+      length-enc 0x30 contents,
     )
 
 room_behind : (front rest : List ℕ) → HasRoom (front ++ rest) → HasRoom rest
@@ -203,36 +203,36 @@ room_behind front rest room = omega (arith, room, length-append front rest)
 
 pub lists_room : (m : Module) → HasRoom (module_contents m) → HasRoom (module_lists m)
 lists_room m room =
-    room_behind (enc 4 m.serial) (module_lists m) (room_behind (oid_text m.hw_type) (enc 4 m.serial ++ module_lists m)
-    (room_behind (number_text 1) (oid_text m.hw_type ++ (enc 4 m.serial ++ module_lists m)) room))
+    room_behind (enc 0x04 m.serial) (module_lists m) (room_behind (oid_text m.hw_type) (enc 0x04 m.serial ++ module_lists m)
+    (room_behind (number_text 1) (oid_text m.hw_type ++ (enc 0x04 m.serial ++ module_lists m)) room))
 
 -- what stands in the lists of a module
 abbrev pub after_communities : Module → List ℕ
 after_communities m =
-    enc 48 (flat_map number_text m.kinds)
-    ++ (number_text m.capacity ++ (enc 48 (flat_map anchor_text m.anchors) ++ key_parts_text (view m.key)))
+    enc 0x30 (flat_map number_text m.kinds)
+    ++ (number_text m.capacity ++ (enc 0x30 (flat_map anchor_text m.anchors) ++ key_parts_text (view m.key)))
 
 pub communities_room : (m : Module) → HasRoom (module_lists m) → HasRoom (flat_map oid_text m.communities)
 communities_room m room = room_between [] (flat_map oid_text m.communities) (after_communities m) room
 
 pub kinds_room : (m : Module) → HasRoom (module_lists m) → HasRoom (flat_map number_text m.kinds)
 kinds_room m room =
-    room_between (enc 48 (flat_map oid_text m.communities)) (flat_map number_text m.kinds)
-    (number_text m.capacity ++ (enc 48 (flat_map anchor_text m.anchors) ++ key_parts_text (view m.key))) room
+    room_between (enc 0x30 (flat_map oid_text m.communities)) (flat_map number_text m.kinds)
+    (number_text m.capacity ++ (enc 0x30 (flat_map anchor_text m.anchors) ++ key_parts_text (view m.key))) room
 
 pub anchors_room : (m : Module) → HasRoom (module_lists m) → HasRoom (flat_map anchor_text m.anchors)
 anchors_room m room =
     room_between (number_text m.capacity) (flat_map anchor_text m.anchors) (key_parts_text (view m.key))
-    (room_behind (enc 48 (flat_map number_text m.kinds)) (number_text m.capacity
-    ++ (enc 48 (flat_map anchor_text m.anchors) ++ key_parts_text (view m.key)))
-    (room_behind (enc 48 (flat_map oid_text m.communities)) (after_communities m) room))
+    (room_behind (enc 0x30 (flat_map number_text m.kinds)) (number_text m.capacity
+    ++ (enc 0x30 (flat_map anchor_text m.anchors) ++ key_parts_text (view m.key)))
+    (room_behind (enc 0x30 (flat_map oid_text m.communities)) (after_communities m) room))
 
 -- where an anchor's text has room, its contents have
 pub contents_room : (these : List TrustAnchor) → AllByRecursion (λ a. HasRoom (anchor_text a)) these
     → AllByRecursion (λ a. HasRoom (anchor_contents a)) these
 contents_room [] room = tt
 contents_room (a ∷ these) room =
-    (omega (arith, room.0, length-enc 48 (anchor_contents a)), contents_room these room.1)
+    (omega (arith, room.0, length-enc 0x30 (anchor_contents a)), contents_room these room.1)
 
 anchors_again : (these : List TrustAnchor) → AllByRecursion IsKeptAnchor these → HasRoom (flat_map anchor_text these)
     → AreMadeOf these (listed anchor_at (flat_map anchor_text these))
@@ -278,7 +278,7 @@ are_parts m h =
 pub module_again : (m : Module) (rest : List ℕ) → IsModule m
     → module_at (module_text m ++ rest) ≡ Some (parts_of_module m, rest)
 module_again m rest h =
-    ap (λ (contents : List ℕ). module_at (enc 48 contents ++ rest)) (sym (parts_contents_of m))
+    ap (λ (contents : List ℕ). module_at (enc 0x30 contents ++ rest)) (sym (parts_contents_of m))
     ∙ module-front.again (parts_of_module m) rest
     (are_parts m h, subst HasRoom (sym (parts_contents_of m)) h.fits)
 
@@ -314,10 +314,10 @@ record ListOctets (l : ListParts) : Type 0 where
 
 list_octets : (l : ListParts) → AreOctets (lists_text l) → ListOctets l
 list_octets l octets =
-    let after = AreOctets-right (enc 48 l.communities)
-    (enc 48 l.kinds ++ (number_text l.capacity ++ (enc 48 l.anchors ++ key_parts_text l.key))) octets in
-    let behind = AreOctets-right (number_text l.capacity) (enc 48 l.anchors ++ key_parts_text l.key)
-    (AreOctets-right (enc 48 l.kinds) (number_text l.capacity ++ (enc 48 l.anchors ++ key_parts_text l.key)) after) in
+    let after = AreOctets-right (enc 0x30 l.communities)
+    (enc 0x30 l.kinds ++ (number_text l.capacity ++ (enc 0x30 l.anchors ++ key_parts_text l.key))) octets in
+    let behind = AreOctets-right (number_text l.capacity) (enc 0x30 l.anchors ++ key_parts_text l.key)
+    (AreOctets-right (enc 0x30 l.kinds) (number_text l.capacity ++ (enc 0x30 l.anchors ++ key_parts_text l.key)) after) in
     record {
       communities = contents_octets 48 l.communities _ (lists_text l) octets refl;
       kinds = contents_octets 48 l.kinds _ _ after refl;
@@ -325,13 +325,13 @@ list_octets l octets =
     }
 
 inside_octets : (p : ModuleParts) (bytes rest : List ℕ) → AreOctets bytes
-    → bytes ≡ enc 48 (parts_contents p) ++ rest → ListOctets p.lists
+    → bytes ≡ enc 0x30 (parts_contents p) ++ rest → ListOctets p.lists
 inside_octets p bytes rest octets is =
     let inside = contents_octets 48 (parts_contents p) rest bytes octets is in
     list_octets p.lists
-    (AreOctets-right (enc 4 p.serial) (lists_text p.lists)
-    (AreOctets-right (oid_text p.hw_type) (enc 4 p.serial ++ lists_text p.lists)
-    (AreOctets-right (number_text 1) (oid_text p.hw_type ++ (enc 4 p.serial ++ lists_text p.lists)) inside)))
+    (AreOctets-right (enc 0x04 p.serial) (lists_text p.lists)
+    (AreOctets-right (oid_text p.hw_type) (enc 0x04 p.serial ++ lists_text p.lists)
+    (AreOctets-right (number_text 1) (oid_text p.hw_type ++ (enc 0x04 p.serial ++ lists_text p.lists)) inside)))
 
 anchors_take : (these : List TrustAnchor) (octets : List ℕ) (read : Option (List AnchorParts)) → AreOctets octets
     → listed anchor_at octets ≡ read → AreMadeOf these read
@@ -388,7 +388,7 @@ module_takes bytes p rest m octets is h =
         fits = subst (λ (q : ModuleParts). HasRoom (parts_contents q)) same t.0.1;
       },
       rest,
-      t.1 ∙ ap (λ (q : ModuleParts). enc 48 (parts_contents q) ++ rest) same,
+      t.1 ∙ ap (λ (q : ModuleParts). enc 0x30 (parts_contents q) ++ rest) same,
     )
 
 -- ---- what the reader answers

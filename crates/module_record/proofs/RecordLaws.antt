@@ -64,9 +64,9 @@ contents_short a kept short =
     omega (
       arith,
       short,
-      length-append a.subject (enc 4 a.key_id ++ (enc 4 a.key ++ text_if tagged_constraints a.constraints)),
-      length-append (enc 4 a.key_id) (enc 4 a.key ++ text_if tagged_constraints a.constraints),
-      length-append (enc 4 a.key) (text_if tagged_constraints a.constraints),
+      length-append a.subject (enc 0x04 a.key_id ++ (enc 0x04 a.key ++ text_if tagged_constraints a.constraints)),
+      length-append (enc 0x04 a.key_id) (enc 0x04 a.key ++ text_if tagged_constraints a.constraints),
+      length-append (enc 0x04 a.key) (text_if tagged_constraints a.constraints),
       length-enc-le 4 a.key_id (omega (arith, kept.anchor.key_id.most)),
       kept.anchor.key_id.most,
       length-enc-le 4 a.key (omega (arith, kept.anchor.key)),
@@ -87,7 +87,7 @@ anchors_short (a ∷ these) kept short = (anchor_short a kept.0 short.0, anchors
 
 -- a SEQUENCE of few octets
 sequence_short : (contents : List ℕ) (most : ℕ) → length contents ≤ most → most < 2 ^ 32
-    → length (enc 48 contents) ≤ most + 6
+    → length (enc 0x30 contents) ≤ most + 6
 sequence_short contents most le small = omega (arith, le, length-enc-le 48 contents (omega (arith, le, small)))
 
 lists_short : (m : Module) → HasLimits m → HasShortSubjects m → length (module_lists m) ≤ 57600
@@ -97,12 +97,12 @@ lists_short m h short =
     let anchors = short_together anchor_text 3220 m.anchors (anchors_short m.anchors h.anchors short) in
     omega (
       arith,
-      length-append (enc 48 (flat_map oid_text m.communities)) (enc 48 (flat_map number_text m.kinds)
-          ++ (number_text m.capacity ++ (enc 48 (flat_map anchor_text m.anchors) ++ key_text m.key))),
-      length-append (enc 48 (flat_map number_text m.kinds))
-          (number_text m.capacity ++ (enc 48 (flat_map anchor_text m.anchors) ++ key_text m.key)),
-      length-append (number_text m.capacity) (enc 48 (flat_map anchor_text m.anchors) ++ key_text m.key),
-      length-append (enc 48 (flat_map anchor_text m.anchors)) (key_text m.key),
+      length-append (enc 0x30 (flat_map oid_text m.communities)) (enc 0x30 (flat_map number_text m.kinds)
+          ++ (number_text m.capacity ++ (enc 0x30 (flat_map anchor_text m.anchors) ++ key_text m.key))),
+      length-append (enc 0x30 (flat_map number_text m.kinds))
+          (number_text m.capacity ++ (enc 0x30 (flat_map anchor_text m.anchors) ++ key_text m.key)),
+      length-append (number_text m.capacity) (enc 0x30 (flat_map anchor_text m.anchors) ++ key_text m.key),
+      length-append (enc 0x30 (flat_map anchor_text m.anchors)) (key_text m.key),
       sequence_short (flat_map oid_text m.communities) 4480 (omega (arith, oids, h.most_communities)) (omega arith),
       sequence_short (flat_map number_text m.kinds) 1472 (omega (arith, kinds, h.most_kinds)) (omega arith),
       sequence_short (flat_map anchor_text m.anchors) 51520 (omega (arith, anchors, h.most_anchors)) (omega arith),
@@ -114,9 +114,9 @@ pub module_short : (m : Module) → HasLimits m → HasShortSubjects m → lengt
 module_short m h short =
     omega (
       arith,
-      length-append (number_text 1) (oid_text m.hw_type ++ (enc 4 m.serial ++ module_lists m)),
-      length-append (oid_text m.hw_type) (enc 4 m.serial ++ module_lists m),
-      length-append (enc 4 m.serial) (module_lists m),
+      length-append (number_text 1) (oid_text m.hw_type ++ (enc 0x04 m.serial ++ module_lists m)),
+      length-append (oid_text m.hw_type) (enc 0x04 m.serial ++ module_lists m),
+      length-append (enc 0x04 m.serial) (module_lists m),
       number_short 1 (omega arith),
       oid_short m.hw_type h.hw_type,
       length-enc-le 4 m.serial (omega (arith, h.most_serial)),
@@ -134,10 +134,10 @@ short_record m h short =
 
 -- ---- two kinds of records
 
-sequence : (contents : List ℕ) → HasRoom contents → IsElement 48 contents
+sequence : (contents : List ℕ) → HasRoom contents → IsElement 0x30 contents
 sequence contents room = record { octet = omega arith; low_bits = omega arith; fits = room }
 
-number_element : (n : ℕ) → n < 2 ^ 128 → IsElement 2 (number_contents n)
+number_element : (n : ℕ) → n < 2 ^ 128 → IsElement 0x02 (number_contents n)
 number_element n small =
     record { octet = omega arith; low_bits = omega arith; fits = omega (arith, length-number-le n small) }
 
@@ -146,7 +146,7 @@ pub another_kind : (octets : List ℕ) (m : Module) (key : SignKey) → BeginsWi
 another_kind octets m key module_is key_is =
     let size = key_text_size key key_is.0.seed key_is.0.id in
     let key_rest = key_text key in
-    let rest = oid_text m.hw_type ++ (enc 4 m.serial ++ module_lists m) in
+    let rest = oid_text m.hw_type ++ (enc 0x04 m.serial ++ module_lists m) in
     let contents = some_is (module_contents m, module_is.1) (number_text 2 ++ key_rest, key_is.1)
     (sym (tagged_again 48 (module_contents m) module_is.1 (sequence (module_contents m) module_is.0.fits))
     ∙ ap (tagged_of 48) (sym module_is.2 ∙ key_is.2)

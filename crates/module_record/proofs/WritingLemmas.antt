@@ -22,9 +22,9 @@ constraints_room a text room is =
     (omega (
       arith,
       room,
-      length-append a.subject (enc 4 a.key_id ++ (enc 4 a.key ++ text_if tagged_constraints a.constraints)),
-      length-append (enc 4 a.key_id) (enc 4 a.key ++ text_if tagged_constraints a.constraints),
-      length-append (enc 4 a.key) (text_if tagged_constraints a.constraints),
+      length-append a.subject (enc 0x04 a.key_id ++ (enc 0x04 a.key ++ text_if tagged_constraints a.constraints)),
+      length-append (enc 0x04 a.key_id) (enc 0x04 a.key ++ text_if tagged_constraints a.constraints),
+      length-append (enc 0x04 a.key) (text_if tagged_constraints a.constraints),
     )))
   where
     of_tail : (c : Option (List ContentConstraint)) → HasRoom (text_if tagged_constraints c)
@@ -35,28 +35,28 @@ constraints_room a text room is =
 -- an anchor's contents, put one part after the other
 pub anchor_fits : (a : TrustAnchor) (text : Option (List ℕ)) (start first second third all subject id key : List ℕ)
     → HasRoom (anchor_contents a) → start ≡ [] → subject ≡ a.subject → id ≡ a.key_id → key ≡ a.key
-    → text ≡ option_map constraints_text a.constraints → first ≡ start ++ subject → second ≡ first ++ enc 4 id
-    → third ≡ second ++ enc 4 key → all ≡ third ++ text_if (enc 0xA0) text → length all < 2 ^ 32
+    → text ≡ option_map constraints_text a.constraints → first ≡ start ++ subject → second ≡ first ++ enc 0x04 id
+    → third ≡ second ++ enc 0x04 key → all ≡ third ++ text_if (enc 0xA0) text → length all < 2 ^ 32
 anchor_fits a text start first second third all subject id key room start_is subject_is id_is key_is text_is
     first_is second_is third_is all_is =
     let tail = ap (text_if (λ (o : List ℕ). enc 0xA0 o)) text_is ∙ sym (tagged_text a.constraints) in
     omega (
       arith,
       room,
-      length-append a.subject (enc 4 a.key_id ++ (enc 4 a.key ++ text_if tagged_constraints a.constraints)),
-      length-append (enc 4 a.key_id) (enc 4 a.key ++ text_if tagged_constraints a.constraints),
-      length-append (enc 4 a.key) (text_if tagged_constraints a.constraints),
+      length-append a.subject (enc 0x04 a.key_id ++ (enc 0x04 a.key ++ text_if tagged_constraints a.constraints)),
+      length-append (enc 0x04 a.key_id) (enc 0x04 a.key ++ text_if tagged_constraints a.constraints),
+      length-append (enc 0x04 a.key) (text_if tagged_constraints a.constraints),
       ap (λ (o : List ℕ). length o) start_is,
       ap (λ (o : List ℕ). length o) subject_is,
-      ap (λ (o : List ℕ). length (enc 4 o)) id_is,
-      ap (λ (o : List ℕ). length (enc 4 o)) key_is,
+      ap (λ (o : List ℕ). length (enc 0x04 o)) id_is,
+      ap (λ (o : List ℕ). length (enc 0x04 o)) key_is,
       ap (λ (o : List ℕ). length o) tail,
       ap (λ (o : List ℕ). length o) first_is,
       length-append start subject,
       ap (λ (o : List ℕ). length o) second_is,
-      length-append first (enc 4 id),
+      length-append first (enc 0x04 id),
       ap (λ (o : List ℕ). length o) third_is,
-      length-append second (enc 4 key),
+      length-append second (enc 0x04 key),
       ap (λ (o : List ℕ). length o) all_is,
       length-append third (text_if (λ (o : List ℕ). enc 0xA0 o) text),
     )
@@ -75,7 +75,7 @@ pub item_room : (anchors : List TrustAnchor) (i : ℕ) (a : TrustAnchor) → i <
 item_room anchors i a lt is room =
     let le = subst (λ (x : TrustAnchor). length (anchor_text x) ≤ length (flat_map anchor_text anchors)) (sym is)
     (one_of_all anchor_text anchors i a lt) in
-    omega (arith, room, le, length-enc 48 (anchor_contents a))
+    omega (arith, room, le, length-enc 0x30 (anchor_contents a))
 
 -- what was put of a module with short subjects
 pub few_put : {T E : Type 0} (result : Result T E) (m : Module) (contents : List ℕ) (now before : ℕ)

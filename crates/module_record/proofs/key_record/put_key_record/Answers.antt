@@ -10,5 +10,5 @@ put_tlv-requires-clause-fits c =
     let key = c.args.key.now in
     let octets : c.in_ok-key_octets.field-0.items ≡ key_text key = search rules in
     let size : length c.in_ok-key_octets.field-0.items ≡ 60 = search rules in
-    let written : c.deref-2.result.now ≡ enc 2 (number_contents 2) ++ key_text key = search rules in
+    let written : c.deref-2.result.now ≡ enc 0x02 (number_contents 2) ++ key_text key = search rules in
     omega (arith, contents_fit key (rw octets at size), ap length written)
