@@ -2,7 +2,7 @@
 use Rattle.std.proofs.Common.{◌≡◌, ◌≤◌, ◌<◌, ◌+◌, ℕ, Bool, true, false, List, [], ◌∷◌, ◌++◌, length}
 use Rattle.std.proofs.Common.{Option, Some, None, refl, sym, ap, ◌∙◌, subst, arith}
 use Rattle.std.specs.Prelude.{Contains, IsPermutation, IsTrue, IfNone, ◌&&◌, map, bytes_eq}
-use Rattle.std.specs.List.{AllByRecursion, IsDistinct, flat_map, list_all}
+use Rattle.std.specs.List.{AllByRecursion, IsDistinct, concat, flat_map, list_all}
 use Rattle.std.proofs.lemmas.Bool.{false≢true}
 use Rattle.std.proofs.lemmas.Map.Keys.{IsDistinct-head, IsDistinct-tail}
 use Rattle.std.proofs.lemmas.Option.{none-some}
@@ -22,7 +22,7 @@ use Rattle.constraint_meet.specs.declared.places.Part.TheVariants.{Contents, Who
 use Rattle.constraint_meet.specs.Permits.{values_in, AreOfOctets}
 use Rattle.constraint_meet.specs.Tests.{meets, passes, are_covered}
 use Rattle.constraint_meet.specs.Places.{Holds}
-use Rattle.constraint_meet.specs.Index.{joined, places_of, value_places, kind_places, all_places, listed_at}
+use Rattle.constraint_meet.specs.Index.{places_of, value_places, kind_places, all_places, listed_at}
 use Rattle.constraint_meet.specs.Index.{AreIndexed, AreLookedUp, StandsAmong, IsAmong}
 use Rattle.constraint_meet.proofs.PlaceLemmas.{Among, among_from, among_to, EndsIn, ends_through, ends_before, ends_size}
 use Rattle.constraint_meet.proofs.PlaceLemmas.{LieWithin, contents_end, values_end, values_are, values_within, kinds_within, all_between}
@@ -134,7 +134,7 @@ module _ (entries : List ContentConstraint) (kinds values : List ℕ) (indexed :
     valid : IsConstrained a
     valid = one_of IsConstrained i.front a i.back constrained_again
 
-    are : AllByRecursion IsOneElement (values_in a.values) × (joined (values_in a.values) ≡ a.values)
+    are : AllByRecursion IsOneElement (values_in a.values) × (concat (values_in a.values) ≡ a.values)
     are = values_are a.values valid.attribute.values
 
     text : length (flat_map attribute_text e.attributes)
@@ -151,7 +151,7 @@ module _ (entries : List ContentConstraint) (kinds values : List ℕ) (indexed :
     record Stand : Type 0 where
       tail : List ℕ
       size : length tail ≡ left
-      ends : EndsIn octets (joined (values_in a.values) ++ tail)
+      ends : EndsIn octets (concat (values_in a.values) ++ tail)
 
     stand : Stand
     stand =

@@ -2,11 +2,10 @@
 use Rattle.std.proofs.Common.{◌≡◌, ◌≤◌, ◌<◌, ◌+◌, ◌-◌, ℕ, zero, suc, List, [], ◌∷◌, ◌++◌, length, drop}
 use Rattle.std.proofs.Common.{refl, sym, ap, ◌∙◌, arith, ◌⊎◌, inl, inr, append_assoc}
 use Rattle.std.specs.Prelude.{Contains}
-use Rattle.std.specs.List.{AllByRecursion, flat_map}
+use Rattle.std.specs.List.{AllByRecursion, concat, flat_map}
 use Rattle.std.proofs.lemmas.Bool.{ne_eqb}
 use Rattle.std.proofs.lemmas.Grind.{flat_map-append}
 use Rattle.std.proofs.lemmas.List.{length-append, drop_at}
-use Rattle.std.proofs.lemmas.List.Concat.{concat_is}
 use Rattle.der_core.specs.Attribute.{Attribute, attribute_contents, attribute_text, AreElements}
 use Rattle.der_core.specs.Element.{enc, length_octets}
 use Rattle.der_core.specs.Shapes.{IsOneElement, text_unless}
@@ -15,7 +14,7 @@ use Rattle.cert_fields.specs.Constraints.{ContentConstraint, entry_contents, ent
 use Rattle.cert_fields.specs.Constraints.{is_source, source_text, is_unconstrained, attributes_text}
 use Rattle.constraint_meet.specs.Permits.{values_in}
 use Rattle.constraint_meet.specs.Places.{from_place}
-use Rattle.constraint_meet.specs.Index.{joined, places_of, value_places, kind_places, all_places}
+use Rattle.constraint_meet.specs.Index.{places_of, value_places, kind_places, all_places}
 use Rattle.constraint_meet.proofs.TestLemmas.{element_some, elements-whole}
 
 -- ---- membership
@@ -105,21 +104,20 @@ attributes_end e =
 -- ---- between which places
 
 pub all_between : (xs : List (List ℕ)) → AllByRecursion IsOneElement xs → (after place : ℕ)
-    → Among place (places_of after xs) → (after < place) × (place ≤ length (joined xs) + after)
+    → Among place (places_of after xs) → (after < place) × (place ≤ length (concat xs) + after)
 all_between [] each after place at = absurd at
 all_between (x ∷ xs) each after place (inl is) =
-    (omega (arith, is, element_some x each.0, length-append x (joined xs)), omega (arith, is))
+    (omega (arith, is, element_some x each.0, length-append x (concat xs)), omega (arith, is))
 all_between (x ∷ xs) each after place (inr later) =
     let between = all_between xs each.1 after place later in
-    (between.0, omega (arith, between.1, length-append x (joined xs)))
+    (between.0, omega (arith, between.1, length-append x (concat xs)))
 
 -- elements are those that their octets hold
 pub values_are : (octets : List ℕ) → AreElements octets
-    → AllByRecursion IsOneElement (values_in octets) × (joined (values_in octets) ≡ octets)
+    → AllByRecursion IsOneElement (values_in octets) × (concat (values_in octets) ≡ octets)
 values_are octets (elements, each, is) =
-    let same : octets ≡ joined elements = is ∙ concat_is elements in
-    let read : values_in octets ≡ elements = rw (same, elements-whole.again elements each) refl in
-    (rw read each, rw read (sym same))
+    let read : values_in octets ≡ elements = rw (is, elements-whole.again elements each) refl in
+    (rw read each, rw read (sym is))
 
 -- places that lie in the text of constrained attributes
 abbrev pub LieWithin : (ℕ → List Attribute → List ℕ) → Type 0

@@ -1,7 +1,7 @@
 -- Places are added one by one.
 use Rattle.std.proofs.Common.{◌≡◌, ◌≤◌, ◌+◌, ℕ, List, [], ◌∷◌, ◌++◌, length}
 use Rattle.std.proofs.Common.{Some, None, refl, sym, ap, ◌∙◌, subst, arith, append_assoc}
-use Rattle.std.specs.List.{AllByRecursion, flat_map}
+use Rattle.std.specs.List.{AllByRecursion, concat, flat_map}
 use Rattle.std.proofs.lemmas.List.{length-append, append-nil}
 use Rattle.std.proofs.lemmas.Option.{none-some}
 use Rattle.der_core.specs.Attribute.{Attribute, attribute_contents, attribute_text}
@@ -16,7 +16,7 @@ use Rattle.cert_fields.specs.Constraints.{ContentConstraint, entry_text, IsConst
 use Rattle.constraint_meet.specs.Permits.{values_in}
 use Rattle.constraint_meet.proofs.PlaceLemmas.{ends_size, attributes_end, values_are}
 use Rattle.constraint_meet.proofs.ValueLemmas.{Elements}
-use Rattle.constraint_meet.specs.Index.{joined, places_of, kind_places}
+use Rattle.constraint_meet.specs.Index.{places_of, kind_places}
 
 -- constrained attributes are left, and the places of their types
 pub record KindsLeft (all so_far : List ℕ) (after : ℕ) (octets : List ℕ) : Type 0 where
@@ -93,7 +93,7 @@ kinds_end all so_far after octets k read = by k.left k.text k.each k.places
 
 -- ---- values
 
-pub joined_are : (octets : List ℕ) → AreOctets octets → Elements octets → joined (values_in octets) ≡ octets
+pub joined_are : (octets : List ℕ) → AreOctets octets → Elements octets → concat (values_in octets) ≡ octets
 joined_are octets are elements =
     (values_are octets (are_elements_take octets are elements)).1
 
@@ -103,8 +103,8 @@ pub values_on : (all so_far pushed : List ℕ) (after left : ℕ) (octets rest e
     → all ≡ so_far ++ places_of after (values_in octets) → pushed ≡ so_far ++ (left + after) ∷ []
     → all ≡ pushed ++ places_of after (values_in rest)
 values_on all so_far pushed after left octets rest element are elements size passed places more =
-    let text : left ≡ length (joined (element ∷ values_in rest)) =
-    size ∙ ap length (sym (joined_are octets are elements)) ∙ ap (λ (xs : List (List ℕ)). length (joined xs)) passed in
+    let text : left ≡ length (concat (element ∷ values_in rest)) =
+    size ∙ ap length (sym (joined_are octets are elements)) ∙ ap (λ (xs : List (List ℕ)). length (concat xs)) passed in
     places ∙ ap (λ (xs : List (List ℕ)). so_far ++ places_of after xs) passed
     ∙ ap (λ (n : ℕ). so_far ++ (n + after) ∷ places_of after (values_in rest)) (sym text)
     ∙ sym (append_assoc so_far ((left + after) ∷ []) (places_of after (values_in rest)))

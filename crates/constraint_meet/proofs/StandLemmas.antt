@@ -1,7 +1,7 @@
 -- What stands at the places of constraints.
 use Rattle.std.proofs.Common.{◌≡◌, ◌+◌, ℕ, List, [], ◌∷◌, ◌++◌, length}
 use Rattle.std.proofs.Common.{Option, Some, refl, sym, ap, ◌∙◌, subst, arith, inl, inr, append_assoc}
-use Rattle.std.specs.List.{AllByRecursion, flat_map}
+use Rattle.std.specs.List.{AllByRecursion, concat, flat_map}
 use Rattle.std.specs.Option.{option_map_or}
 use Rattle.std.proofs.lemmas.Grind.{flat_map-append}
 use Rattle.std.proofs.lemmas.List.{length-append}
@@ -16,7 +16,7 @@ use Rattle.cert_fields.specs.Constraints.{ContentConstraint, entry_text, IsConst
 use Rattle.constraint_meet.specs.declared.places.Part.{Part}
 use Rattle.constraint_meet.specs.declared.places.Part.TheVariants.{Contents, Whole}
 use Rattle.constraint_meet.specs.Places.{part_of, part_at}
-use Rattle.constraint_meet.specs.Index.{joined, places_of, listed_at, StandsAmong, IsAmong}
+use Rattle.constraint_meet.specs.Index.{places_of, listed_at, StandsAmong, IsAmong}
 use Rattle.constraint_meet.proofs.PlaceLemmas.{Among, EndsIn, ends_later, ends_through, ends_before, from_end}
 use Rattle.constraint_meet.proofs.PlaceLemmas.{contents_end, attributes_end}
 
@@ -32,50 +32,50 @@ stands part octets tag contents rest place h ends size =
 -- ---- values
 
 pub value_at : (octets : List ℕ) (xs : List (List ℕ)) (tail : List ℕ) (after : ℕ) → AllByRecursion IsOneElement xs
-    → EndsIn octets (joined xs ++ tail) → length tail ≡ after → (place : ℕ) → Among place (places_of after xs)
+    → EndsIn octets (concat xs ++ tail) → length tail ≡ after → (place : ℕ) → Among place (places_of after xs)
     → Among (part_at Whole octets place) xs
 value_at octets [] tail after each ends size place at = absurd at
 value_at octets (x ∷ xs) tail after each ends size place (inl is) = inl (sym (whole each.0))
   where
     whole : IsOneElement x → part_at Whole octets place ≡ x
     whole (tag, contents, h, same) =
-        stands Whole octets tag contents (joined xs ++ tail) place h
-        (rw (← same) (subst (EndsIn octets) (append_assoc x (joined xs) tail) ends))
+        stands Whole octets tag contents (concat xs ++ tail) place h
+        (rw (← same) (subst (EndsIn octets) (append_assoc x (concat xs) tail) ends))
         (rw (← same) (omega (
           arith,
-          length-append x (joined xs ++ tail),
-          length-append (joined xs) tail,
-          length-append x (joined xs),
+          length-append x (concat xs ++ tail),
+          length-append (concat xs) tail,
+          length-append x (concat xs),
           is,
           size,
         )))
         ∙ sym same
 value_at octets (x ∷ xs) tail after each ends size place (inr later) =
     inr (value_at octets xs tail after each.1
-    (ends_later octets x (joined xs ++ tail) (subst (EndsIn octets) (append_assoc x (joined xs) tail) ends)) size place later)
+    (ends_later octets x (concat xs ++ tail) (subst (EndsIn octets) (append_assoc x (concat xs) tail) ends)) size place later)
 
 pub place_of_value : (octets : List ℕ) (xs : List (List ℕ)) (tail : List ℕ) (after : ℕ) → AllByRecursion IsOneElement xs
-    → EndsIn octets (joined xs ++ tail) → length tail ≡ after → (value : List ℕ) → Among value xs
+    → EndsIn octets (concat xs ++ tail) → length tail ≡ after → (value : List ℕ) → Among value xs
     → (place : ℕ) × Among place (places_of after xs) × (part_at Whole octets place ≡ value)
 place_of_value octets [] tail after each ends size value at = absurd at
 place_of_value octets (x ∷ xs) tail after each ends size value (inl is) =
-    (length (joined (x ∷ xs)) + after, inl refl, whole each.0 ∙ is)
+    (length (concat (x ∷ xs)) + after, inl refl, whole each.0 ∙ is)
   where
-    whole : IsOneElement x → part_at Whole octets (length (joined (x ∷ xs)) + after) ≡ x
+    whole : IsOneElement x → part_at Whole octets (length (concat (x ∷ xs)) + after) ≡ x
     whole (tag, contents, h, same) =
-        stands Whole octets tag contents (joined xs ++ tail) (length (joined (x ∷ xs)) + after) h
-        (rw (← same) (subst (EndsIn octets) (append_assoc x (joined xs) tail) ends))
+        stands Whole octets tag contents (concat xs ++ tail) (length (concat (x ∷ xs)) + after) h
+        (rw (← same) (subst (EndsIn octets) (append_assoc x (concat xs) tail) ends))
         (rw (← same) (omega (
           arith,
-          length-append x (joined xs ++ tail),
-          length-append (joined xs) tail,
-          length-append x (joined xs),
+          length-append x (concat xs ++ tail),
+          length-append (concat xs) tail,
+          length-append x (concat xs),
           size,
         )))
         ∙ sym same
 place_of_value octets (x ∷ xs) tail after each ends size value (inr later) =
     let found = place_of_value octets xs tail after each.1
-    (ends_later octets x (joined xs ++ tail) (subst (EndsIn octets) (append_assoc x (joined xs) tail) ends)) size value
+    (ends_later octets x (concat xs ++ tail) (subst (EndsIn octets) (append_assoc x (concat xs) tail) ends)) size value
     later in
     (found.0, inr found.1, found.2)
 

@@ -1,7 +1,7 @@
 -- How constraints are kept: in their place, and beside them the places in their texts at which the types of constrained
 -- attributes and the listed values stand, in order. Nothing here has to be believed: what is permitted doesn't name it.
 use Rattle.std.specs.Prelude.{◌≡◌, ℕ, ◌+◌, List, [], ◌∷◌, ◌++◌, length, IsPermutation, Contains, Option, Some}
-use Rattle.std.specs.List.{flat_map}
+use Rattle.std.specs.List.{concat, flat_map}
 use Rattle.der_core.specs.Attribute.{Attribute, attribute_contents, attribute_text}
 use Rattle.der_core.specs.Reading.{◌>>?◌, front_of, tagged_of}
 use Rattle.cert_fields.specs.Constraints.{ContentConstraint, entry_text}
@@ -9,14 +9,10 @@ use Rattle.constraint_meet.specs.declared.places.Part.TheVariants.{Contents, Who
 use Rattle.constraint_meet.specs.Permits.{values_in}
 use Rattle.constraint_meet.specs.Places.{AreInOrder, Holds, from_place}
 
--- the octets of elements, one after the other
-abbrev pub joined : List (List ℕ) → List ℕ
-joined elements = flat_map (λ (element : List ℕ). element) elements
-
 -- the places of elements that stand one after the other, where so many octets follow them
 abbrev pub places_of : ℕ → List (List ℕ) → List ℕ
 places_of after [] = []
-places_of after (element ∷ more) = (length (joined (element ∷ more)) + after) ∷ places_of after more
+places_of after (element ∷ more) = (length (concat (element ∷ more)) + after) ∷ places_of after more
 
 -- the places of the values that are listed for constrained attributes
 abbrev pub value_places : ℕ → List Attribute → List ℕ

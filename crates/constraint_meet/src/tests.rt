@@ -1,10 +1,9 @@
 // Worked rows, as octets.
 use crate::{Grant, grant_of, meet, permits};
 use attribute_set::read_attribute_set;
-use cert_fields::read_ccc;
+use cert_fields::{Ccc, read_ccc};
 use der_core::read_oid;
 use std::alloc::{AllocError, Global};
-use std::test::Fail;
 
 // 1.2.840.113549.1.9.16.1.16, id-ct-firmwarePackage (RFC 4108, section 2.1.5), and
 // 1.2.840.113549.1.7.1, id-data (RFC 5652, section 4).
@@ -110,102 +109,158 @@ const TWO_LISTED: &[u8] = b"\x30\x0b\x06\x02\x2a\x03\x31\x05\x02\x01\x03\x05\x00
 // One attribute: 4.
 const UNLISTED: &[u8] = b"\x30\x09\x06\x02\x2a\x03\x31\x03\x02\x01\x04";
 
-// What one member permits of firmware packages with these attributes.
-fn one(alloc: Global, these: &[u8], attributes: &[u8]) -> Result<Option<bool>, AllocError> {
-    let (Some(ccc), Some(attributes), Some(content)) = (
-        read_ccc(alloc, these)?,
-        read_attribute_set(alloc, attributes)?,
-        read_oid(PACKAGE),
-    ) else {
-        return Ok(None);
-    };
-    let grant = grant_of(alloc, &ccc)?;
-    Ok(Some(permits(&grant, &content, &attributes)))
+// Whether a grant permits content of this type with these attributes. None where one of them is none.
+fn does_permit(alloc: Global, grant: &Grant, content: &[u8], attributes: &[u8]) -> Option<bool> {
+    let content = read_oid(content)?;
+    match read_attribute_set(alloc, attributes) {
+        Ok(Some(attributes)) => Some(permits(grant, &content, &attributes)),
+        Ok(None) => None,
+        Err(_) => None,
+    }
+}
+
+// The same of what one member permits, of firmware packages.
+fn one_does(alloc: Global, ccc: &Ccc<'_>, attributes: &[u8]) -> Option<bool> {
+    match grant_of(alloc, ccc) {
+        Ok(grant) => does_permit(alloc, &grant, PACKAGE, attributes),
+        Err(_) => None,
+    }
+}
+
+fn one(alloc: Global, these: &[u8], attributes: &[u8], answer: bool) -> bool {
+    match read_ccc(alloc, these) {
+        Ok(Some(ccc)) => one_does(alloc, &ccc, attributes) == Some(answer),
+        Ok(None) => false,
+        Err(_) => false,
+    }
 }
 
 // What two permit together.
-fn two(
+fn both_do(
     alloc: Global,
-    these: &[u8],
-    those: &[u8],
+    these: &Grant<'_>,
+    those: &Grant<'_>,
     content: &[u8],
     attributes: &[u8],
-) -> Result<Option<bool>, AllocError> {
-    let (Some(ccc), Some(other), Some(attributes), Some(content)) = (
-        read_ccc(alloc, these)?,
-        read_ccc(alloc, those)?,
-        read_attribute_set(alloc, attributes)?,
-        read_oid(content),
-    ) else {
-        return Ok(None);
-    };
-    let both = meet(alloc, &grant_of(alloc, &ccc)?, &grant_of(alloc, &other)?)?;
-    Ok(Some(permits(&both, &content, &attributes)))
+) -> Option<bool> {
+    match meet(alloc, these, those) {
+        Ok(both) => does_permit(alloc, &both, content, attributes),
+        Err(_) => None,
+    }
 }
 
-// The same, as an anchor's and a certificate's, with or without an anchor's and a certificate's.
-fn path(alloc: Global, anchor: bool, certificate: bool) -> Result<Option<bool>, AllocError> {
-    let (Some(ccc), Some(attributes), Some(content)) = (
-        read_ccc(alloc, SEVEN)?,
-        read_attribute_set(alloc, EIGHT)?,
-        read_oid(PACKAGE),
-    ) else {
-        return Ok(None);
-    };
-    let grant = Grant::everything().with_anchor(alloc, anchor.then_some(&ccc))?;
-    let grant = grant.with_certificate(alloc, certificate.then_some(&ccc))?;
-    Ok(Some(permits(&grant, &content, &attributes)))
+fn with_another(
+    alloc: Global,
+    these: &Grant<'_>,
+    those: &Ccc<'_>,
+    content: &[u8],
+    attributes: &[u8],
+) -> Option<bool> {
+    match grant_of(alloc, those) {
+        Ok(those) => both_do(alloc, these, &those, content, attributes),
+        Err(_) => None,
+    }
+}
+
+fn two_do(
+    alloc: Global,
+    these: &Ccc<'_>,
+    those: &Ccc<'_>,
+    content: &[u8],
+    attributes: &[u8],
+) -> Option<bool> {
+    match grant_of(alloc, these) {
+        Ok(these) => with_another(alloc, &these, those, content, attributes),
+        Err(_) => None,
+    }
+}
+
+fn two(
+    alloc: Global,
+    members: (&[u8], &[u8]),
+    content: &[u8],
+    attributes: &[u8],
+    answer: bool,
+) -> bool {
+    match (read_ccc(alloc, members.0), read_ccc(alloc, members.1)) {
+        (Ok(Some(these)), Ok(Some(those))) => {
+            two_do(alloc, &these, &those, content, attributes) == Some(answer)
+        }
+        _ => false,
+    }
+}
+
+// What an anchor and a certificate permit.
+fn path_does<'a>(
+    alloc: Global,
+    anchor: Option<&Ccc<'a>>,
+    certificate: Option<&Ccc<'a>>,
+) -> Option<bool> {
+    match Grant::everything().with_anchor(alloc, anchor) {
+        Ok(grant) => goes_on(alloc, grant, certificate),
+        Err(_) => None,
+    }
+}
+
+fn goes_on<'a>(alloc: Global, grant: Grant<'a>, certificate: Option<&Ccc<'a>>) -> Option<bool> {
+    match grant.with_certificate(alloc, certificate) {
+        Ok(grant) => does_permit(alloc, &grant, PACKAGE, EIGHT),
+        Err(_) => None,
+    }
+}
+
+// The same with or without the constraints of each.
+fn path(alloc: Global, anchor: bool, certificate: bool, answer: bool) -> bool {
+    match read_ccc(alloc, SEVEN) {
+        Ok(Some(ccc)) => {
+            let (anchor, certificate) = (anchor.then_some(&ccc), certificate.then_some(&ccc));
+            path_does(alloc, anchor, certificate) == Some(answer)
+        }
+        Ok(None) => false,
+        Err(_) => false,
+    }
+}
+
+// The last three are looked up, of which the last has no such attribute.
+fn values_are_covered_in(alloc: Global) -> bool {
+    one(alloc, SEVEN, EIGHT_STALE, true)
+        && one(alloc, SEVEN, SIX, false)
+        && one(alloc, SEVEN, OTHER_NINE, false)
+        && one(alloc, TWO_TYPES, FIRST, true)
+        && one(alloc, TWO_TYPES, ANOTHER, false)
+        && one(alloc, TYPES_APART, BOTH, false)
+        && one(alloc, LEGACY, LEGACY_NAME, true)
+        && one(alloc, LEGACY, LEGACY_STALE, false)
+        && one(alloc, LISTED, TWO_LISTED, true)
+        && one(alloc, LISTED, UNLISTED, false)
+        && one(alloc, LISTED, SIX, true)
 }
 
 #[test]
-fn values_are_covered(rt: HostRuntime) -> Result<(), Fail> {
-    let alloc = rt.alloc();
-    assert_eq!(rt; one(alloc, SEVEN, EIGHT_STALE)?, Some(true));
-    assert_eq!(rt; one(alloc, SEVEN, SIX)?, Some(false));
-    assert_eq!(rt; one(alloc, SEVEN, OTHER_NINE)?, Some(false));
-    assert_eq!(rt; one(alloc, TWO_TYPES, FIRST)?, Some(true));
-    assert_eq!(rt; one(alloc, TWO_TYPES, ANOTHER)?, Some(false));
-    assert_eq!(rt; one(alloc, TYPES_APART, BOTH)?, Some(false));
-    assert_eq!(rt; one(alloc, LEGACY, LEGACY_NAME)?, Some(true));
-    assert_eq!(rt; one(alloc, LEGACY, LEGACY_STALE)?, Some(false));
-    // looked up, and an attribute that is absent
-    assert_eq!(rt; one(alloc, LISTED, TWO_LISTED)?, Some(true));
-    assert_eq!(rt; one(alloc, LISTED, UNLISTED)?, Some(false));
-    assert_eq!(rt; one(alloc, LISTED, SIX)?, Some(true));
-    Ok(())
+fn values_are_covered(rt: HostRuntime) {
+    assert!(rt; values_are_covered_in(rt.alloc()));
 }
 
+// An entry that refuses is kept beside the other's for any content.
 #[test]
-fn members_permit_together(rt: HostRuntime) -> Result<(), Fail> {
+fn members_permit_together(rt: HostRuntime) {
     let alloc = rt.alloc();
-    assert_eq!(rt; two(alloc, SEVEN, NINE, PACKAGE, EIGHT)?, Some(false));
-    assert_eq!(rt; two(alloc, SEVEN, NINE, PACKAGE, NINTH)?, Some(true));
-    // an entry that refuses is kept beside the other's for any content
-    assert_eq!(rt;
-        two(alloc, ANY_CONTENT, BUT_PACKAGES, PACKAGE, b"")?,
-        Some(false)
-    );
-    assert_eq!(rt;
-        two(alloc, ANY_CONTENT, BUT_PACKAGES, DATA, b"")?,
-        Some(true)
-    );
-    Ok(())
+    assert!(rt; two(alloc, (SEVEN, NINE), PACKAGE, EIGHT, false));
+    assert!(rt; two(alloc, (SEVEN, NINE), PACKAGE, NINTH, true));
+    assert!(rt; two(alloc, (ANY_CONTENT, BUT_PACKAGES), PACKAGE, b"", false));
+    assert!(rt; two(alloc, (ANY_CONTENT, BUT_PACKAGES), DATA, b"", true));
+}
+
+fn grant_does(alloc: Global, grant: &Grant<'_>, answer: bool) -> bool {
+    does_permit(alloc, grant, PACKAGE, SIX) == Some(answer)
 }
 
 // A certificate without the extension permits nothing, an anchor without it everything.
 #[test]
-fn extensions_are_missing(rt: HostRuntime) -> Result<(), Fail> {
+fn extensions_are_missing(rt: HostRuntime) {
     let alloc = rt.alloc();
-    assert_eq!(rt; path(alloc, true, true)?, Some(true));
-    assert_eq!(rt; path(alloc, false, true)?, Some(true));
-    assert_eq!(rt; path(alloc, true, false)?, Some(false));
-    let Some(content) = read_oid(PACKAGE) else {
-        return Ok(());
-    };
-    let attributes = read_attribute_set(alloc, SIX)?;
-    if let Some(attributes) = attributes {
-        assert!(rt; permits(&Grant::everything(), &content, &attributes));
-        assert!(rt; !permits(&Grant::nothing(), &content, &attributes));
-    }
-    Ok(())
+    assert!(rt; path(alloc, true, true, true) && path(alloc, false, true, true));
+    assert!(rt; path(alloc, true, false, false));
+    assert!(rt; grant_does(alloc, &Grant::everything(), true));
+    assert!(rt; grant_does(alloc, &Grant::nothing(), false));
 }
