@@ -1,6 +1,5 @@
 ghost use Rattle.std.specs.Prelude.{◌≡◌, ◌≤◌, ℕ, List, [], length, option_map, IfSome, IfOk};
 ghost use Rattle.std.specs.Prelude.{IsSome, MatchResult, Ok, Err};
-ghost use Rattle.der_core.specs.Condition.{IsCondition};
 ghost use Rattle.der_core.specs.Element.{AreOctets};
 ghost use Rattle.cms_signed.specs.SignedView.{gapped_view};
 ghost use Rattle.cms_signed.specs.Answer.{put_in, FitsCut, content_at, IsAnswer, gapped_at};
@@ -27,17 +26,6 @@ pub(crate) struct Outer<'a> {
     pub tail: &'a [u8],
 }
 
-// The condition of a number that is one.
-pub(crate) fn condition(number: u8) -> Condition
-    requires { IsCondition number }
-    ensures { result ≡ number }
-{
-    match Condition::new(number) {
-        Some(condition) => condition,
-        None => unreachable!(),
-    }
-}
-
 // The conditions 7 to 11.
 #[tactic(auto, unfolding(crate::specs::SignedReading::or_fails, crate::specs::SignedReading::unless))]
 fn inner<'a>(
@@ -52,19 +40,19 @@ fn inner<'a>(
         (λ n. inner kind.now (found.now, option_map gapped_view content.entry) tail.now ≡ Err n) }
 {
     if found == ENCRYPTED_DATA.as_slice() {
-        return Err(condition(7));
+        return Err(Condition::numbered(7));
     }
     if found == COMPRESSED_DATA.as_slice() {
-        return Err(condition(8));
+        return Err(Condition::numbered(8));
     }
     if found != kind {
-        return Err(condition(9));
+        return Err(Condition::numbered(9));
     }
     let Some(content) = content else {
-        return Err(condition(10));
+        return Err(Condition::numbered(10));
     };
     if tail.len() > MOST_BEHIND {
-        return Err(condition(11));
+        return Err(Condition::numbered(11));
     }
     Ok((content, tail))
 }
@@ -77,16 +65,16 @@ fn read_gapped<'a>(kind: &[u8], item: Gapped<'a>) -> Result<(Gapped<'a>, &'a [u8
         (λ n. gapped_outer kind.now (gapped_view item.entry) ≡ Err n) }
 {
     let Some(info) = read_info(item) else {
-        return Err(condition(3));
+        return Err(Condition::numbered(3));
     };
     if info.content_type.octets() != SIGNED_DATA.as_slice() {
-        return Err(condition(4));
+        return Err(Condition::numbered(4));
     }
     let Some(signed) = read_signed_data(info.content) else {
-        return Err(condition(5));
+        return Err(Condition::numbered(5));
     };
     let Some(encapsulated) = read_encapsulated(signed.encapsulated) else {
-        return Err(condition(6));
+        return Err(Condition::numbered(6));
     };
     let found = encapsulated.content_type;
     inner(kind, found.octets(), encapsulated.content, signed.tail)

@@ -13,7 +13,6 @@ ghost use Rattle.cms_signed.specs.SignerKnown.{HasAsked};
 ghost use Rattle.cms_signed.specs.Tail.{tail_conditions, on_tail};
 
 use crate::certificates::{Certificates, read_certificates};
-use crate::outer::condition;
 use crate::signed::{SignedFault, SignedView};
 use crate::signer_info::{SignerInfo, is_one_sequence, read_signer_info};
 use crate::tail::read_tail;
@@ -40,19 +39,19 @@ fn find_signer(octets: &[u8]) -> Result<(Certificates<'_>, SignerInfo<'_>), Cond
         (λ number. FirstFail (on_tail tail_conditions octets.now) number) }
 {
     let Some(tail) = read_tail(octets) else {
-        return Err(condition(12));
+        return Err(Condition::numbered(12));
     };
     let Some(certificates) = read_certificates(tail.certificates) else {
-        return Err(condition(12));
+        return Err(Condition::numbered(12));
     };
     if !is_one_sequence(tail.signer_infos) {
-        return Err(condition(13));
+        return Err(Condition::numbered(13));
     }
     let Some(signer) = read_signer_info(tail.signer_infos) else {
-        return Err(condition(14));
+        return Err(Condition::numbered(14));
     };
     if !are_unsigned(signer.attributed.unsigned_attributes) {
-        return Err(condition(15));
+        return Err(Condition::numbered(15));
     }
     Ok((certificates, signer))
 }
@@ -114,16 +113,16 @@ pub(crate) fn read_signer<'a>(
         Err(condition) => return Err(SignedFault::Fails(condition)),
     };
     let Some(element) = signer.attributed.signed_attributes else {
-        return Err(SignedFault::Fails(condition(16)));
+        return Err(SignedFault::Fails(Condition::numbered(16)));
     };
     let Some(attrs) = signed_attributes(alloc, element)? else {
-        return Err(SignedFault::Fails(condition(16)));
+        return Err(SignedFault::Fails(Condition::numbered(16)));
     };
     if !is_sha_256(signer.digest_algorithm) {
-        return Err(SignedFault::Fails(condition(17)));
+        return Err(SignedFault::Fails(Condition::numbered(17)));
     }
     if !is_hss_lms(signer.attributed.signature_algorithm) {
-        return Err(SignedFault::Fails(condition(18)));
+        return Err(SignedFault::Fails(Condition::numbered(18)));
     }
     Ok(SignedView {
         content,

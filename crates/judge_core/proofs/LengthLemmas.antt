@@ -3,13 +3,13 @@ use Rattle.std.proofs.Common.{◌≡◌, ℕ, List, [], length, Option, None, So
 use Rattle.der_core.specs.Asked.{AllHold, FirstFail}
 use Rattle.sha2.specs.Sha256.{sha256}
 use Rattle.config_table.specs.State.{State, offer_of, with_package}
-use Rattle.config_table.specs.Stored.{Stored}
+use Rattle.config_table.specs.Stored.{Stored, lengths}
 use Rattle.config_table.proofs.StateLemmas.{with_package-state_with}
 use Rattle.package_attrs.specs.Description.{Description}
 use Rattle.package_rules.specs.Module.{Module}
 use Rattle.package_rules.specs.Conditions.{module_conditions, overflow_conditions}
 use Rattle.package_rules.proofs.AlikeLemmas.{modules_hold, modules_first, limits_hold, limits_first}
-use Rattle.judge_core.specs.Conditions.{lengths, installed_with}
+use Rattle.judge_core.specs.Conditions.{installed_with}
 use Rattle.judge_core.specs.Steps.{Tells}
 use Rattle.judge_core.proofs.TellsLemmas.{tells}
 

@@ -10,7 +10,7 @@ use Rattle.cms_signed.specs.Message.{Message}
 use Rattle.cms_signed.specs.SignedAnswer.{Shows}
 use Rattle.cms_signed.specs.declared.signed.SignedView.{SignedView}
 use Rattle.config_table.specs.State.{State}
-use Rattle.config_table.specs.Stored.{Stored}
+use Rattle.config_table.specs.Stored.{Stored, lengths}
 use Rattle.module_record.specs.declared.module.Module.{Module}
 use Rattle.package_attrs.specs.Description.{Description}
 use Rattle.path_check.specs.Conditions.{members_at}
@@ -18,7 +18,7 @@ use Rattle.path_check.specs.Paths.{PathPlaces, PathOf}
 use Rattle.path_check.proofs.MemberLemmas.{anchor_within}
 use Rattle.judge_core.specs.declared.fault.Fault.{Fault}
 use Rattle.judge_core.specs.declared.fault.Fault.TheVariants.{Fails, Memory}
-use Rattle.judge_core.specs.Conditions.{value_conditions, signature_conditions, rule_conditions, lengths, certificates_in, LeadsUp, IsPath}
+use Rattle.judge_core.specs.Conditions.{value_conditions, signature_conditions, rule_conditions, certificates_in, LeadsUp, IsPath}
 use Rattle.judge_core.specs.Verdicts.{bench}
 use Rattle.judge_core.specs.Steps.{Says, Passes, Stops, values_of}
 

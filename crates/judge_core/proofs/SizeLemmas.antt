@@ -6,7 +6,7 @@ use Rattle.der_core.specs.declared.fault.DerFault.TheVariants.{Short, Malformed}
 use Rattle.der_core.specs.Element.{enc}
 use Rattle.der_core.specs.Head.{head_octets, head_at, IsHead, BeginsWith, IsNoHead}
 use Rattle.der_core.proofs.HeadLemmas.{head_again}
-use Rattle.judge_core.specs.Conditions.{IsItem}
+use Rattle.judge_core.specs.Conditions.{IsSequenceOf}
 use Rattle.judge_core.specs.Steps.{BeginsLike}
 
 -- an element begins with its head
@@ -33,7 +33,7 @@ no_head octets Malformed tag size none begins =
 
 module _ (octets : List ℕ) (more : ℕ) (item : List ℕ) (like : BeginsLike octets more item) where
   -- the head of an item
-  pub begins : (contents : List ℕ) → IsItem item contents → BeginsWith octets 0x30 (length contents)
+  pub begins : (contents : List ℕ) → IsSequenceOf item contents → BeginsWith octets 0x30 (length contents)
   begins contents is =
       (like.heads 0x30 (length contents)).1
       (record {
@@ -44,7 +44,7 @@ module _ (octets : List ℕ) (more : ℕ) (item : List ℕ) (like : BeginsLike o
 
   -- what its head says
   pub size_is : (tag size : ℕ) (rest : List ℕ) → IsHead tag size → octets ≡ head_octets tag size ++ rest
-      → (contents : List ℕ) → IsItem item contents
+      → (contents : List ℕ) → IsSequenceOf item contents
       → (tag ≡ 0x30) × (size ≡ length contents) × (size ≡ length rest + more)
   size_is tag size rest head text contents is =
       let same = one_head octets tag size 0x30 (length contents) (record { head = head; rest = rest; text = text })
@@ -59,7 +59,7 @@ module _ (octets : List ℕ) (more : ℕ) (item : List ℕ) (like : BeginsLike o
 
   -- an item is there
   pub item_of : (size : ℕ) (rest : List ℕ) → IsHead 0x30 size → octets ≡ head_octets 0x30 size ++ rest
-      → size ≡ length rest + more → (contents : List ℕ) × IsItem item contents × (length contents ≡ size)
+      → size ≡ length rest + more → (contents : List ℕ) × IsSequenceOf item contents × (length contents ≡ size)
   item_of size rest head text count =
       let b = (like.heads 0x30 size).0 (record { head = head; rest = rest; text = text }) in
       let whole : length item ≡ length (head_octets 0x30 size) + length b.rest =

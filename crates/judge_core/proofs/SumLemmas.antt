@@ -8,9 +8,9 @@ use Rattle.content_stream.specs.ImageBlocks.{blocks_for}
 use Rattle.package_attrs.specs.declared.name.PackageName.TheVariants as names
 use Rattle.config_table.specs.State.{Entry, State, Offer, placed, entry_for, with_package, entry_with}
 use Rattle.config_table.proofs.StateLemmas.{with_package-state_with}
-use Rattle.config_table.specs.Stored.{Stored}
+use Rattle.config_table.specs.Stored.{Stored, lengths}
 use Rattle.config_table.specs.Names.{is_same}
-use Rattle.judge_core.specs.Conditions.{lengths, blocks_taken}
+use Rattle.judge_core.specs.Conditions.{blocks_taken}
 
 -- the blocks of a stored image
 abbrev pub blocks_in : Entry Stored → ℕ

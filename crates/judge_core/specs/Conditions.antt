@@ -13,8 +13,7 @@ use Rattle.cms_signed.specs.Message.{Message}
 use Rattle.cms_signed.specs.SignedAnswer.{certificates_of}
 use Rattle.cms_signed.specs.Signer.{to_be_signed}
 use Rattle.cms_signed.specs.Tail.{signed_conditions}
-use Rattle.config_table.specs.State.{Entry, State, offer_of, state_with, with_package}
-use Rattle.config_table.specs.Stored.{Stored}
+use Rattle.config_table.specs.State.{Entry, State, offer_of, with_package}
 use Rattle.content_stream.specs.ImageBlocks.{blocks_for}
 use Rattle.hss_chain.specs.Chains.{HssHolds}
 use Rattle.hss_chain.specs.declared.key.HssKey.{HssKey}
@@ -30,8 +29,8 @@ use Rattle.judge_core.specs.Values.{Values, Spells}
 -- ---- 1 to 19: the item's octets
 
 -- the item is one SEQUENCE with these contents (X.690, section 8.9)
-abbrev pub IsItem : List ℕ → List ℕ → Type 0
-IsItem item contents = IsElement 0x30 contents × (item ≡ enc 0x30 contents)
+abbrev pub IsSequenceOf : List ℕ → List ℕ → Type 0
+IsSequenceOf item contents = IsElement 0x30 contents × (item ≡ enc 0x30 contents)
 
 -- the most octets that an item's contents may have; this project's own
 abbrev pub most_contents : ℕ
@@ -40,8 +39,8 @@ most_contents = 17825792
 -- it is an element, and not too long
 abbrev pub size_conditions : List ℕ → List Asked
 size_conditions item =
-    asked 1 ((contents : List ℕ) × IsItem item contents)
-    ∷ asked 2 ((contents : List ℕ) × IsItem item contents × (length contents ≤ most_contents))
+    asked 1 ((contents : List ℕ) × IsSequenceOf item contents)
+    ∷ asked 2 ((contents : List ℕ) × IsSequenceOf item contents × (length contents ≤ most_contents))
     ∷ []
 
 -- then it is signed data of one signer around a firmware package (3 to 18; RFC 5652, sections 3 and 5), and its signed
@@ -101,10 +100,6 @@ signature_conditions at anchor members message =
 abbrev pub hardware_of : Module → Hardware
 hardware_of m =
     record { hw_type = m.hw_type; serial = m.serial; communities = m.communities; kinds = m.kinds }
-
--- what is installed, with the lengths of the images alone
-abbrev pub lengths : State Stored → State ℕ
-lengths state = state_with (λ image. image.length) state
 
 -- the same with the package, which has this image
 abbrev pub installed_with : Description → List ℕ → State ℕ → State ℕ

@@ -4,14 +4,14 @@ use Rattle.der_core.specs.Asked.{Asked, AllHold, FirstFail}
 use Rattle.cert_fields.specs.Anchor.{TrustAnchor}
 use Rattle.cert_fields.specs.Certificate.{Certificate}
 use Rattle.config_table.specs.State.{State}
-use Rattle.config_table.specs.Stored.{Stored}
+use Rattle.config_table.specs.Stored.{Stored, lengths}
 use Rattle.module_record.specs.declared.module.Module.{Module}
 use Rattle.package_attrs.specs.declared.name.PackageName.{PackageName}
 use Rattle.package_attrs.specs.Description.{Description}
 use Rattle.package_attrs.specs.Image.{IsImage}
 use Rattle.judge_core.specs.Values.{Values, Spells}
 use Rattle.judge_core.specs.Conditions.{octet_conditions, value_conditions, LeadsUp, signature_conditions}
-use Rattle.judge_core.specs.Conditions.{rule_conditions, lengths}
+use Rattle.judge_core.specs.Conditions.{rule_conditions}
 
 -- What an item is judged by.
 pub record Bench : Type 0 where

@@ -1,6 +1,5 @@
 // Why a package isn't accepted.
 ghost use Rattle.std.specs.Prelude.{◌≡◌};
-ghost use Rattle.der_core.specs.Condition.{IsCondition};
 ghost use Rattle.judge_core.specs.FaultOf.{of_find, of_path};
 
 use der_core::Condition;
@@ -30,7 +29,7 @@ pub(crate) fn of_find(fault: FindFault) -> Fault
     ensures { result ≡ of_find fault }
 {
     match fault {
-        FindFault::NoAnchor => Fault::Fails(condition(22)),
+        FindFault::NoAnchor => Fault::Fails(Condition::numbered(22)),
         FindFault::Memory => Fault::Memory,
     }
 }
@@ -42,16 +41,5 @@ pub(crate) fn of_path(fault: PathFault) -> Fault
     match fault {
         PathFault::Fails(failing) => Fault::Fails(failing),
         PathFault::Memory => Fault::Memory,
-    }
-}
-
-// The condition of a number that is one.
-pub(crate) fn condition(number: u8) -> Condition
-    requires { IsCondition number }
-    ensures { result ≡ number }
-{
-    match Condition::new(number) {
-        Some(condition) => condition,
-        None => unreachable!(),
     }
 }

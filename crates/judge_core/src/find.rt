@@ -13,19 +13,15 @@ ghost use Rattle.judge_core.specs.Conditions.{value_conditions, IsPath};
 ghost use Rattle.judge_core.specs.Steps.{FailsAs, values_of};
 
 use crate::content::Content;
-use crate::fault::{Fault, condition, of_find};
+use crate::fault::{Fault, of_find};
 use cert_fields::KeptCert;
 use cms_signed::SignedView;
+use cms_signed::content_types::FIRMWARE_PACKAGE;
 use der_core::Condition;
 use module_record::Module;
 use package_attrs::Package;
 use path_check::{Path, find_path};
 use std::alloc::Global;
-
-// id-ct-firmwarePackage, by its contents (RFC 4108, section 2.1.5).
-const FIRMWARE_PACKAGE: [u8; 11] = [
-    0x2a, 0x86, 0x48, 0x86, 0xf7, 0x0d, 0x01, 0x09, 0x10, 0x01, 0x10,
-];
 
 // The first of the conditions 20 and 21 that fails.
 fn first_of_attributes(offered: &Package<'_>, known: &Content) -> Option<Condition>
@@ -36,10 +32,10 @@ fn first_of_attributes(offered: &Package<'_>, known: &Content) -> Option<Conditi
         → FirstFail (value_conditions holder (values_of m (description offered.now))) number) }
 {
     if offered.content.octets() != FIRMWARE_PACKAGE.as_slice() {
-        return Some(condition(20));
+        return Some(Condition::numbered(20));
     }
     if offered.digest != known.digest {
-        return Some(condition(21));
+        return Some(Condition::numbered(21));
     }
     None
 }

@@ -12,13 +12,13 @@ ghost use Rattle.judge_core.specs.Steps.{FailsAs, IsSeen, IsRefusal, Passes, Sto
 
 use crate::CutVerdict;
 use crate::content::Content;
-use crate::fault::{Fault, condition};
+use crate::fault::Fault;
 use crate::find::find;
 use crate::rules::first_of_rules;
 use crate::signature::check;
 use cms_signed::SignedView;
 use config_table::State;
-use der_core::{Moment, Octets64};
+use der_core::{Condition, Moment, Octets64};
 use module_record::Module;
 use package_attrs::{Package, PackageName, read_package};
 use std::alloc::{AllocError, Global};
@@ -77,7 +77,7 @@ pub(crate) fn judge_view<'a>(
         → JudgesMessage (bench owner.now state.now sequence at) m image verdict) }
 {
     let Some(package) = read_package(&view.attrs) else {
-        return Ok(CutVerdict::Refuse(condition(19), None));
+        return Ok(CutVerdict::Refuse(Condition::numbered(19), None));
     };
     match check_package(alloc, owner, state, sequence, at, view, &package, known) {
         Ok(anchor_key_id) => Ok(CutVerdict::Accept {

@@ -2,7 +2,6 @@
 ghost use Rattle.package_attrs.specs.Attributes.{HaveOwnTypes};
 ghost use Rattle.judge_core.specs.Rehearsal.{JudgesAttributes, rehearsed_view};
 
-use crate::fault::condition;
 use attribute_set::Attributes;
 use config_table::State;
 use der_core::Condition;
@@ -29,7 +28,7 @@ pub fn rehearse_step<'a>(
     ensures judged { JudgesAttributes hardware.now state.now attributes.now (rehearsed_view result) }
 {
     let Some(package) = read_package(attributes) else {
-        return Rehearsed::Refuse(condition(19));
+        return Rehearsed::Refuse(Condition::numbered(19));
     };
     if let Some(failing) = first_refusal(hardware, state, &package) {
         return Rehearsed::Refuse(failing);

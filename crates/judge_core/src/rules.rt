@@ -4,33 +4,22 @@ ghost use Rattle.std.specs.Option.{option_map_or};
 ghost use Rattle.std.specs.Prelude.{◌≡◌, ◌≤◌, ◌^◌, ℕ, List, Some, length, slice_get};
 ghost use Rattle.config_table.specs.Names.{is_same};
 ghost use Rattle.config_table.specs.State.{Entry, offer_of, with_package};
-ghost use Rattle.config_table.specs.Stored.{Stored};
+ghost use Rattle.config_table.specs.Stored.{Stored, lengths};
 ghost use Rattle.content_stream.specs.ImageBlocks.{blocks_for};
 ghost use Rattle.package_attrs.specs.Description.{description};
-ghost use Rattle.judge_core.specs.Conditions.{hardware_of, lengths, installed_with, blocks_taken};
+ghost use Rattle.judge_core.specs.Conditions.{hardware_of, installed_with, blocks_taken};
 ghost use Rattle.judge_core.specs.Conditions.{room_conditions, rule_conditions};
 ghost use Rattle.judge_core.specs.Steps.{Tells};
 
-use crate::fault::condition;
 use config_table::State;
+use content_stream::blocks_for;
 use der_core::Condition;
 use module_record::Module;
 use package_attrs::{Package, PackageName};
 use package_rules::{HardwareModule, first_overflow, first_refusal};
 
-// How many octets a block has.
-const BLOCK: u32 = 4096;
-
-// How many blocks an image of so many octets takes.
-fn blocks_for(length: u32) -> u64
-    ensures blocks { result ≡ blocks_for length }
-    ensures most { result ≤ 2 ^ 20 }
-{
-    u64::from(length.div_ceil(BLOCK))
-}
-
 // The same of the image of the package at this place.
-fn blocks_at(state: &State, place: usize) -> u64
+fn blocks_at(state: &State, place: usize) -> u32
     ensures blocks { (entry : Entry Stored) → slice_get state.now.packages place ≡ Some entry
         → result ≡ blocks_for entry.image.length }
     ensures most { result ≤ 2 ^ 20 }
@@ -54,7 +43,7 @@ fn blocks_of(state: &State) -> u128
 }
 
 // How many blocks the image takes of the package that one of this name replaces.
-fn blocks_replaced(state: &State, name: &PackageName) -> u64
+fn blocks_replaced(state: &State, name: &PackageName) -> u32
     ensures replaced { result ≡ option_map_or (λ entry. blocks_for entry.image.length)
         (find (λ entry. is_same name.now entry.name) state.now.packages) 0 }
     ensures most { result ≤ 2 ^ 20 }
@@ -100,16 +89,16 @@ fn first_of_room(
         (installed_with (description offered.now) octets (lengths state.now)) octets) }
 {
     if image == 0 {
-        return Some(condition(37));
+        return Some(Condition::numbered(37));
     }
     if blocks_with(state, offered, image) > u128::from(owner.capacity) {
-        return Some(condition(38));
+        return Some(Condition::numbered(38));
     }
     if let Some(failing) = first_overflow(state, offered) {
         return Some(failing);
     }
     if sequence == u64::MAX {
-        return Some(condition(41));
+        return Some(Condition::numbered(41));
     }
     None
 }

@@ -16,11 +16,11 @@ ghost use Rattle.path_check.specs.Paths.{PathOf};
 ghost use Rattle.judge_core.specs.Conditions.{signature_conditions};
 ghost use Rattle.judge_core.specs.Steps.{FailsAs};
 
-use crate::fault::{Fault, condition, of_path};
+use crate::fault::{Fault, of_path};
 use cert_fields::KeptCert;
 use cms_signed::SignedView;
 use constraint_meet::permits;
-use der_core::{Moment, Octets64, Oid, tags};
+use der_core::{Condition, Moment, Octets64, Oid, tags};
 use hss_chain::{HssKey, hss_check};
 use lms_sign::keys_have_one_text_each;
 use module_record::Module;
@@ -65,10 +65,10 @@ pub(crate) fn check(
         Err(fault) => return Err(of_path(fault)),
     };
     if !permits(&checked.effective, content, &view.attrs) {
-        return Err(Fault::Fails(condition(28)));
+        return Err(Fault::Fails(Condition::numbered(28)));
     }
     if !is_signed_by(&checked.key, view) {
-        return Err(Fault::Fails(condition(29)));
+        return Err(Fault::Fails(Condition::numbered(29)));
     }
     Ok(checked.anchor_key_id)
 }

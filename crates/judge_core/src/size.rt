@@ -3,7 +3,6 @@ ghost use Rattle.std.specs.Prelude.{ℕ, List};
 ghost use Rattle.judge_core.specs.Conditions.{size_conditions};
 ghost use Rattle.judge_core.specs.Steps.{BeginsLike, Tells};
 
-use crate::fault::condition;
 use der_core::{Condition, read_head, tags};
 
 // How many octets the contents of an item have at most.
@@ -16,13 +15,13 @@ pub(crate) fn first_of_size(octets: &[u8], more: u32) -> Option<Condition>
         → Tells result (size_conditions item) }
 {
     let Ok((tag, size, rest)) = read_head(octets) else {
-        return Some(condition(1));
+        return Some(Condition::numbered(1));
     };
     if tag != tags::SEQUENCE || rest.len() as u64 + u64::from(more) != u64::from(size) {
-        return Some(condition(1));
+        return Some(Condition::numbered(1));
     }
     if size > MOST_CONTENTS {
-        return Some(condition(2));
+        return Some(Condition::numbered(2));
     }
     None
 }

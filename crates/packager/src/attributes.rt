@@ -22,16 +22,12 @@ use crate::package_plan::PackagePlan;
 use attribute_write::{
     NamedCommunity, put_attribute, put_communities, put_identifier, put_info, put_targets,
 };
+use cms_signed::content_types::FIRMWARE_PACKAGE;
 use der_core::{Oid, tags};
 use der_write::laws::one_set;
 use der_write::{put_tlv, sorted_contents};
 use package_attrs::{Identifier, PackageName, attribute_types as types};
 use std::alloc::{AllocError, Global};
-
-// id-ct-firmwarePackage, 1.2.840.113549.1.9.16.1.16 (RFC 4108, section 2.1.5), by its contents.
-pub(crate) const FIRMWARE_PACKAGE: [u8; 11] = [
-    0x2a, 0x86, 0x48, 0x86, 0xf7, 0x0d, 0x01, 0x09, 0x10, 0x01, 0x10,
-];
 
 // Appends an attribute of this type with this one value to the list of them.
 fn push_attribute(

@@ -16,13 +16,14 @@ ghost use Rattle.packager.specs.PackagePlan.{package_view, IsPackagePlan};
 ghost use Rattle.packager.specs.PlannedMessage.{planned_content, planned_attributes, planned_message};
 ghost use Rattle.packager.specs.PlannedMessage.{planned_certificates, written_choices};
 
-use crate::attributes::{FIRMWARE_PACKAGE, signed_attributes};
+use crate::attributes::signed_attributes;
 use crate::certificate::put_algorithm;
 use crate::fronts::{begin_element, together};
 use crate::package_plan::PackagePlan;
 use crate::unsigned::Unsigned;
 use cert_fields::algorithms::SHA_256;
 use cert_fields::one_certificate_text;
+use cms_signed::content_types::{FIRMWARE_PACKAGE, SIGNED_DATA};
 use der_core::tags;
 use der_write::{put_tlv, put_u128};
 use lms_sign::{SignKey, signature_size};
@@ -32,9 +33,6 @@ use std::alloc::{AllocError, Global};
 // The version of SignedData whose content isn't id-data (RFC 5652, section 5.1), and of a SignerInfo
 // whose signer is named by a key identifier (section 5.3).
 const V3: u128 = 3;
-
-// id-signedData, 1.2.840.113549.1.7.2 (RFC 5652, section 5.1), by its contents.
-const SIGNED_DATA: [u8; 9] = [0x2a, 0x86, 0x48, 0x86, 0xf7, 0x0d, 0x01, 0x07, 0x02];
 
 // What stands before the image in the content: nothing, or the head of an OCTET STRING of it.
 fn wrap_head(alloc: Global, plan: &PackagePlan) -> Result<Vec<u8>, AllocError>

@@ -14,7 +14,7 @@ ghost use Rattle.path_check.specs.Members.{member_view, IsRead, IsOnlyKey};
 ghost use Rattle.path_check.specs.Faults.{FailsFirst};
 
 use crate::Path;
-use crate::failure::{condition, first_failure};
+use crate::failure::first_failure;
 use crate::member::{Member, read_members};
 use crate::soundness::key_above;
 use cert_fields::{Anchor, KeptCert};
@@ -123,7 +123,7 @@ fn check_under<'a>(
         FailsFirst result (path_conditions at.now anchor.now members) }
 {
     let Some(members) = read_members(alloc, certs, places)? else {
-        return Err(PathFault::Fails(condition(23)));
+        return Err(PathFault::Fails(Condition::numbered(23)));
     };
     if let Some(failed) = first_failure(&members, anchor_key, at) {
         return Err(PathFault::Fails(failed));

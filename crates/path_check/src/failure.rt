@@ -2,7 +2,6 @@
 ghost use Rattle.std.specs.Prelude.{◌≡◌, ◌↔◌, IsNone, IfSome, map};
 ghost use Rattle.std.specs.List.{AllByRecursion};
 ghost use Rattle.der_core.specs.Asked.{AllHold, FirstFail};
-ghost use Rattle.der_core.specs.Condition.{IsCondition};
 ghost use Rattle.cert_fields.specs.Anchor.{TrustAnchor};
 ghost use Rattle.path_check.specs.Conditions.{path_conditions};
 ghost use Rattle.path_check.specs.Members.{member_view, IsRead, IsOnlyKey};
@@ -12,17 +11,6 @@ use crate::rules::keep_rules;
 use crate::soundness::{are_signed, are_valid_at, have_keys};
 use der_core::{Condition, Moment};
 use hss_chain::HssKey;
-
-// The condition of a number that is one.
-pub(crate) fn condition(number: u8) -> Condition
-    requires { IsCondition number }
-    ensures { result ≡ number }
-{
-    match Condition::new(number) {
-        Some(condition) => condition,
-        None => unreachable!(),
-    }
-}
 
 // The first condition that fails, of members whose extensions read.
 pub(crate) fn first_failure(
@@ -38,16 +26,16 @@ pub(crate) fn first_failure(
         (FirstFail (path_conditions at.now anchor (map member_view members.now))) }
 {
     if !are_valid_at(members, at) {
-        return Some(condition(24));
+        return Some(Condition::numbered(24));
     }
     if !keep_rules(members) {
-        return Some(condition(25));
+        return Some(Condition::numbered(25));
     }
     if !have_keys(members) {
-        return Some(condition(26));
+        return Some(Condition::numbered(26));
     }
     if !are_signed(members, anchor_key) {
-        return Some(condition(27));
+        return Some(Condition::numbered(27));
     }
     None
 }

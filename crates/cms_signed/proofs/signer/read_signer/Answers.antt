@@ -12,7 +12,7 @@ octets o = option_map (λ (x : Bor (List ℕ)). x.now) o
 
 pub returns-in_default-clause-answer : goal.returns-in_default-clause-answer
 returns-in_default-clause-answer c =
-    laws.numbered c.args.tail.now _ 16 c.condition.ensures
+    laws.numbered c.args.tail.now _ 16 c.numbered.ensures.value
     (laws.bad_signed c.args.tail.now _ (signer_view c.in-Ok.found.1) c.in-Ok.ensures
     (λ attributes set is. none-some _ (sym (ap octets c.in_default.is) ∙ is)))
 
@@ -22,7 +22,7 @@ signed_attributes-requires-clause-room c =
 
 pub returns-in_default-2-clause-answer : goal.returns-in_default-2-clause-answer
 returns-in_default-2-clause-answer c =
-    laws.numbered c.args.tail.now _ 16 c.condition-in_default-2.ensures
+    laws.numbered c.args.tail.now _ 16 c.numbered-in_default-2.ensures.value
     (laws.bad_signed c.args.tail.now _ (signer_view c.in-Ok.found.1) c.in-Ok.ensures
     (laws.none_read (signer_view c.in-Ok.found.1) c.in-Some.element.now c.in_ok-attrs.field-0 (ap octets c.in-Some.is)
     c.in_ok-attrs.ensures c.in_default-2.is))
@@ -31,7 +31,7 @@ pub returns-then-not-is_sha_256-clause-answer : goal.returns-then-not-is_sha_256
 returns-then-not-is_sha_256-clause-answer c =
     let signed = laws.some_read (signer_view c.in-Ok.found.1) c.in-Some.element.now c.in_ok-attrs.field-0
     c.in-Some-2.attrs (ap octets c.in-Some.is) c.in_ok-attrs.ensures c.in-Some-2.is in
-    laws.numbered c.args.tail.now _ 17 c.condition-then-not-is_sha_256.ensures
+    laws.numbered c.args.tail.now _ 17 c.numbered-then-not-is_sha_256.ensures.value
     (laws.bad_digest c.args.tail.now _ (signer_view c.in-Ok.found.1) c.in-Ok.ensures
     (c.in-Some-2.attrs, signed.0, signed.1)
     (laws.isnt_digest (signer_view c.in-Ok.found.1) (sym c.is_sha_256.ensures ∙ c.if-not-is_sha_256.true)))
@@ -40,7 +40,7 @@ pub returns-then-not-is_hss_lms-clause-answer : goal.returns-then-not-is_hss_lms
 returns-then-not-is_hss_lms-clause-answer c =
     let signed = laws.some_read (signer_view c.in-Ok.found.1) c.in-Some.element.now c.in_ok-attrs.field-0
     c.in-Some-2.attrs (ap octets c.in-Some.is) c.in_ok-attrs.ensures c.in-Some-2.is in
-    laws.numbered c.args.tail.now _ 18 c.condition-then-not-is_hss_lms.ensures
+    laws.numbered c.args.tail.now _ 18 c.numbered-then-not-is_hss_lms.ensures.value
     (laws.bad_signature c.args.tail.now _ (signer_view c.in-Ok.found.1) c.in-Ok.ensures
     (c.in-Some-2.attrs, signed.0, signed.1)
     (laws.is_digest (signer_view c.in-Ok.found.1) (sym c.is_sha_256.ensures ∙ c.if-not-is_sha_256.false))

@@ -41,7 +41,7 @@ refused b m image d name Memory verdict describes is refusal stops = absurd refu
 pub returns-in_default : goal.returns-in_default
 returns-in_default c = record {
   judged = λ m image seen. (
-    c.condition.ensures,
+    c.numbered.ensures.value,
     describes_none c.args.view.now.attrs m.signer.signed_attributes c.read_package.result c.in_default.is
         c.read_package.ensures.described seen.shows.attrs,
   );

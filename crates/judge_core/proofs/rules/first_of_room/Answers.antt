@@ -4,9 +4,9 @@ use Rattle.module_record.specs.declared.module.Module.{Module}
 use Rattle.package_rules.specs.Conditions.{overflow_conditions}
 use Rattle.sha2.specs.Sha256.{sha256}
 use Rattle.config_table.specs.State.{State, offer_of, with_package}
-use Rattle.config_table.specs.Stored.{Stored}
+use Rattle.config_table.specs.Stored.{Stored, lengths}
 use Rattle.package_attrs.specs.Description.{Description, description}
-use Rattle.judge_core.specs.Conditions.{lengths, blocks_taken, installed_with, room_conditions}
+use Rattle.judge_core.specs.Conditions.{blocks_taken, installed_with, room_conditions}
 use Rattle.judge_core.specs.Steps.{Tells}
 use Rattle.judge_core.proofs.TellsLemmas.{behind, in_front}
 use Rattle.judge_core.proofs.LengthLemmas.{stored, limits_told}
@@ -50,12 +50,12 @@ returns-then-sequence-eq18446744073709551615 c = record {
       let state = c.args.state.now in
       let taken = of_image d state octets c.args.image c.blocks_with.result is c.blocks_with.ensures.taken in
       let after = installed_with d octets (lengths state) in
-      let number = c.condition-then-sequence-eq18446744073709551615.result in
+      let number = c.numbered-then-sequence-eq18446744073709551615.result in
       later c.args.owner.now c.args.sequence d state octets (Some number) (omega (arith, is, c.if-image-eq0.false))
       (omega (arith, taken, c.from.ensures, c.if-blocks_with-from.false))
       (behind (overflow_conditions after) (asked 41 (c.args.sequence < 2 ^ 64 - 1) ∷ []) (Some number)
       (limits_told d octets state None (c.in_default.ensures.hold (sha256 octets) (stored (length octets))) tt)
-      (inl (c.condition-then-sequence-eq18446744073709551615.ensures, λ low. omega (arith, low, c.if-sequence-eq18446744073709551615.true))));
+      (inl (c.numbered-then-sequence-eq18446744073709551615.ensures.value, λ low. omega (arith, low, c.if-sequence-eq18446744073709551615.true))));
 }
 
 pub returns : goal.returns

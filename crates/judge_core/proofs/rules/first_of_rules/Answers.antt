@@ -3,7 +3,8 @@ use Rattle.der_core.specs.Asked.{AllHold, FirstFail}
 use Rattle.sha2.specs.Sha256.{sha256}
 use Rattle.package_attrs.specs.Description.{description}
 use Rattle.package_rules.specs.Conditions.{module_conditions}
-use Rattle.judge_core.specs.Conditions.{hardware_of, lengths, installed_with, room_conditions}
+use Rattle.judge_core.specs.Conditions.{hardware_of, installed_with, room_conditions}
+use Rattle.config_table.specs.Stored.{lengths}
 use Rattle.judge_core.proofs.LengthLemmas.{stored, modules_told}
 use Rattle.judge_core.proofs.TellsLemmas.{behind, in_front}
 use Rattle.judge_core.proofs.rules.first_of_rules.Goals as goal

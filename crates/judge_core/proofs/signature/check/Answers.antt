@@ -89,7 +89,7 @@ returns-then-not-permits-clause-fails c = λ m anchor shows is.
     (c.in-Ok.ensures.ok anchor
     (among c.args.owner.now.anchors c.as_slice.result.now c.args.path.now.anchor anchor c.as_slice.ensures.anchors is)) in
     not_permitted c.args.at anchor members m handed checked c.keys_have_one_text_each.ensures
-    c.condition.result c.condition.ensures
+    c.numbered.result c.numbered.ensures.value
     (λ granted. true≢false (sym (c.if-not-permits.ensures.permits.1
     (granted_back c.args.content.now c.args.view.now.attrs m.signer.signed_attributes handed.effective c.requires.content
     shows.attrs granted))))
@@ -107,7 +107,7 @@ returns-then-not-is_signed_by-clause-fails c = λ m anchor shows is.
     (c.in-Ok.ensures.ok anchor
     (among c.args.owner.now.anchors c.as_slice.result.now c.args.path.now.anchor anchor c.as_slice.ensures.anchors is)) in
     not_signed c.args.at anchor members m handed checked c.keys_have_one_text_each.ensures
-    c.condition-then-not-is_signed_by.result c.condition-then-not-is_signed_by.ensures
+    c.numbered-then-not-is_signed_by.result c.numbered-then-not-is_signed_by.ensures.value
     (granted_of c.args.content.now c.args.view.now.attrs m.signer.signed_attributes handed.effective c.requires.content
     shows.attrs (c.if-not-permits.ensures.permits.0 refl))
     (λ holds. true≢false (sym ((c.if-not-is_signed_by.ensures.signed m shows).1 holds)))

@@ -16,7 +16,7 @@ pub returns-in_default : goal.returns-in_default
 returns-in_default c = record {
   told = λ item like.
       inl (
-        c.condition.ensures,
+        c.numbered.ensures.value,
         λ x.
             no_head c.args.octets.now c.in_default.field-0 0x30 (length x.0) c.in_default.ensures.fault
             (begins c.args.octets.now c.args.more item like x.0 x.1),
@@ -27,7 +27,7 @@ pub returns-then-tag-ne-SEQUENCE : goal.returns-then-tag-ne-SEQUENCE
 returns-then-tag-ne-SEQUENCE c = record {
   told = λ item like.
       inl (
-        c.condition-then-tag-ne-SEQUENCE.ensures,
+        c.numbered-then-tag-ne-SEQUENCE.ensures.value,
         λ x.
             let is = size_is c.args.octets.now c.args.more item like c.in-Ok.tag c.in-Ok.size c.in-Ok.rest.now
             c.in-Ok.ensures.found.0 c.in-Ok.ensures.found.1 x.0 x.1 in
@@ -48,7 +48,7 @@ returns-then-size-gt-MOST_CONTENTS c = record {
       inr (
         (found.0, found.1),
         inl (
-          c.condition-then-size-gt-MOST_CONTENTS.ensures,
+          c.numbered-then-size-gt-MOST_CONTENTS.ensures.value,
           λ x.
               let is = size_is c.args.octets.now c.args.more item like c.in-Ok.tag c.in-Ok.size c.in-Ok.rest.now
               c.in-Ok.ensures.found.0 c.in-Ok.ensures.found.1 x.0 x.1 in

@@ -7,7 +7,7 @@ pub returns-then-not-are_valid_at-clause-first : goal.returns-then-not-are_valid
 returns-then-not-are_valid_at-clause-first c = λ anchor is.
     inr (
       reads_each c.args.members.now c.requires.read,
-      inl (c.condition.ensures, untrue c.if-not-are_valid_at.true c.are_valid_at.ensures.valid),
+      inl (c.numbered.ensures.value, untrue c.if-not-are_valid_at.true c.are_valid_at.ensures.valid),
     )
 
 pub returns-then-not-keep_rules-clause-first : goal.returns-then-not-keep_rules-clause-first
@@ -16,7 +16,7 @@ returns-then-not-keep_rules-clause-first c = λ anchor is.
       reads_each c.args.members.now c.requires.read,
       inr (
         c.are_valid_at.ensures.valid.0 c.if-not-are_valid_at.false,
-        inl (c.condition-then-not-keep_rules.ensures, untrue c.if-not-keep_rules.true c.keep_rules.ensures.keep),
+        inl (c.numbered-then-not-keep_rules.ensures.value, untrue c.if-not-keep_rules.true c.keep_rules.ensures.keep),
       ),
     )
 
@@ -28,7 +28,7 @@ returns-then-not-have_keys-clause-first c = λ anchor is.
         c.are_valid_at.ensures.valid.0 c.if-not-are_valid_at.false,
         inr (
           c.keep_rules.ensures.keep.0 c.if-not-keep_rules.false,
-          inl (c.condition-then-not-have_keys.ensures, untrue c.if-not-have_keys.true c.have_keys.ensures.keys),
+          inl (c.numbered-then-not-have_keys.ensures.value, untrue c.if-not-have_keys.true c.have_keys.ensures.keys),
         ),
       ),
     )
@@ -44,7 +44,7 @@ returns-then-not-are_signed-clause-first c = λ anchor is.
           inr (
             c.have_keys.ensures.keys.0 c.if-not-have_keys.false,
             inl (
-              c.condition-then-not-are_signed.ensures,
+              c.numbered-then-not-are_signed.ensures.value,
               untrue c.if-not-are_signed.true (c.are_signed.ensures.signed anchor is),
             ),
           ),
