@@ -10,3 +10,4 @@ pub mod CommandLemmas
 pub mod RehearsalLemmas
 pub mod OneAnswer
 pub mod TripleLaws
+pub mod UnopenedLemmas

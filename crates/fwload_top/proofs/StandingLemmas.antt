@@ -4,7 +4,7 @@ use Rattle.config_table.specs.State.{state_with}
 use Rattle.bank_layout.specs.Recovery.{standing_of}
 use Rattle.module_store.specs.declared.store.Store.{Store}
 use Rattle.module_store.specs.Store.{IsStoreOf, manifest_of}
-use Rattle.report_text.specs.Lines.{lengths}
+use Rattle.config_table.specs.Stored.{lengths}
 use Rattle.fwload_top.specs.Standing.{StandsAt}
 
 -- it is what the store says, whose images have the lengths of its manifest

@@ -17,7 +17,7 @@ Fits octets = Unit {0} × (length octets < 2 ^ 32)
 abbrev PartsFit : Triple → Type 0
 PartsFit t = Fits t.key × (Fits t.message × Fits t.signature)
 
-octets-front : IsFront (λ (octets : List ℕ). enc 4 octets) Fits (element 4 anything)
+octets-front : IsFront (λ (octets : List ℕ). enc 0x04 octets) Fits (element 0x04 anything)
 octets-front = sized-element-front 4 (is_tag 4 refl) anything-whole
 
 fields-whole : IsWhole triple_contents PartsFit fields_of
@@ -29,12 +29,12 @@ fields-whole = mapped-whole (λ x. record { key = x.0; message = x.1.0; signatur
 -- where all of them fit, each does
 parts_fit : (t : Triple) → IsTriple t → PartsFit t
 parts_fit t fits =
-    let all = length-append (enc 4 t.key) (enc 4 t.message ++ enc 4 t.signature) in
-    let behind = length-append (enc 4 t.message) (enc 4 t.signature) in (
-      (tt, omega (arith, fits, all, length-enc 4 t.key)),
+    let all = length-append (enc 0x04 t.key) (enc 0x04 t.message ++ enc 0x04 t.signature) in
+    let behind = length-append (enc 0x04 t.message) (enc 0x04 t.signature) in (
+      (tt, omega (arith, fits, all, length-enc 0x04 t.key)),
       (
-        (tt, omega (arith, fits, all, behind, length-enc 4 t.message)),
-        (tt, omega (arith, fits, all, behind, length-enc 4 t.signature)),
+        (tt, omega (arith, fits, all, behind, length-enc 0x04 t.message)),
+        (tt, omega (arith, fits, all, behind, length-enc 0x04 t.signature)),
       ),
     )
 

@@ -4,9 +4,9 @@ use Rattle.std.specs.Prelude.{◌≡◌, ℕ, List, [], ◌∷◌, ◌++◌, Boo
 use Rattle.std.specs.List.{AllByRecursion, flat_map, list_any}
 use Rattle.der_core.specs.Element.{enc, IsElement, HasTagged}
 use Rattle.config_table.specs.State.{State, empty_state}
-use Rattle.config_table.specs.Stored.{Stored}
+use Rattle.config_table.specs.Stored.{Stored, lengths}
 use Rattle.package_rules.specs.Module.{Module}
-use Rattle.report_text.specs.Lines.{state_lines, lengths, accepted_line, refused_line, rehearsal_head}
+use Rattle.report_text.specs.Lines.{state_lines, accepted_line, refused_line, rehearsal_head}
 use Rattle.fwload_top.specs.declared.status.Status.{Status}
 use Rattle.fwload_top.specs.declared.status.Status.TheVariants.{Done, SomeRefused}
 use Rattle.fwload_top.specs.Meaning.{Meaning, Answer, says, any, any_board}

@@ -20,11 +20,11 @@ pub record Triple : Type 0 where
 
 -- the three OCTET STRINGs one after the other
 abbrev pub triple_contents : Triple → List ℕ
-triple_contents t = enc 4 t.key ++ (enc 4 t.message ++ enc 4 t.signature)
+triple_contents t = enc 0x04 t.key ++ (enc 0x04 t.message ++ enc 0x04 t.signature)
 
 -- SEQUENCE { key OCTET STRING, message OCTET STRING, signature OCTET STRING }
 abbrev pub triple_text : Triple → List ℕ
-triple_text t = enc 48 (triple_contents t)
+triple_text t = enc 0x30 (triple_contents t)
 
 -- the contents of an element have fewer than 2^32 octets
 abbrev pub IsTriple : Triple → Type 0

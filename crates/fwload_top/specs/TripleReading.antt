@@ -11,7 +11,7 @@ view t = record { key = t.key.now; message = t.message.now; signature = t.signat
 unfoldable pub fields_of : Whole Triple
 fields_of =
     mapped (λ x. record { key = x.0; message = x.1.0; signature = x.1.1 })
-    (before (element 4 anything) (before (element 4 anything) (alone (element 4 anything))))
+    (before (element 0x04 anything) (before (element 0x04 anything) (alone (element 0x04 anything))))
 
 unfoldable pub triple_of : Whole Triple
-triple_of = alone (element 48 fields_of)
+triple_of = alone (element 0x30 fields_of)

@@ -16,7 +16,7 @@ use edge_board::{Board, Source};
 use explain_text::{put_grant, put_path, put_verdict};
 use judge_core::{PathGrant, Verdict, judge, path_grant};
 use module_record::Module;
-use module_store::{OpenFault, Store, open};
+use module_store::{Store, open};
 use std::alloc::{AllocError, Global};
 
 // Answers what the path of the package permits that the input is, and the verdict on it.
@@ -31,9 +31,7 @@ pub(crate) fn explain<S: Source, B: Board>(
 {
     match open(alloc, board) {
         Ok(store) => explain_by(alloc, at, &store, source, board),
-        Err(OpenFault::NotAModule) => Status::NotAModule,
-        Err(OpenFault::Fault) => Status::DeviceFault,
-        Err(OpenFault::Memory) => Status::NoMemory,
+        Err(fault) => Status::from(fault),
     }
 }
 

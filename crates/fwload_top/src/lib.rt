@@ -75,6 +75,7 @@ mod signing;
 mod status;
 mod step;
 mod triple;
+mod unopened;
 mod words;
 
 pub use dispatch::run;

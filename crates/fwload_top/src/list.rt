@@ -11,7 +11,7 @@ use bank_layout::images_have_their_lengths;
 use edge_board::Board;
 use key_state::spent;
 use lms_sign::leaf_count;
-use module_store::{OpenFault, Store, open};
+use module_store::{Store, open};
 use report_text::put_list;
 use std::alloc::Global;
 
@@ -22,9 +22,7 @@ pub(crate) fn list<B: Board>(alloc: Global, board: &mut B) -> Status
 {
     match open(alloc, board) {
         Ok(store) => list_store(alloc, board, &store),
-        Err(OpenFault::NotAModule) => Status::NotAModule,
-        Err(OpenFault::Fault) => Status::DeviceFault,
-        Err(OpenFault::Memory) => Status::NoMemory,
+        Err(fault) => Status::from(fault),
     }
 }
 

@@ -10,7 +10,7 @@ ghost use Rattle.fwload_top.specs.Rehearsal.{Follows, JudgesOne, JudgesFront};
 
 use crate::Status;
 use crate::identity::Identity;
-use crate::step::{condition, enter, judge};
+use crate::step::{enter, judge};
 use config_table::State;
 use der_core::{Condition, Cursor, Moment, tags};
 use judge_core::Rehearsed;
@@ -144,7 +144,7 @@ impl Rehearsal {
     {
         let mut done = self;
         if rest {
-            done = done.refuse(alloc, condition(1))?;
+            done = done.refuse(alloc, Condition::numbered(1))?;
         }
         put_state(alloc, &mut done.lines, &done.state)?;
         Ok(done)

@@ -1,6 +1,5 @@
 // The step of a rehearsal: the verdict on one attribute set, and what it leaves installed.
 ghost use Rattle.std.specs.Prelude.{◌≡◌, IfOk};
-ghost use Rattle.der_core.specs.Condition.{IsCondition};
 ghost use Rattle.package_attrs.specs.Description.{description};
 ghost use Rattle.judge_core.specs.Rehearsal.{after, rehearsed_view};
 ghost use Rattle.judge_core.specs.Rehearsal.Verdict.{accepted};
@@ -15,17 +14,6 @@ use package_rules::HardwareModule;
 use sha2::{Digest, Sha256};
 use std::alloc::{AllocError, Global};
 
-// The condition of a number that is one.
-pub(crate) fn condition(number: u8) -> Condition
-    requires { IsCondition number }
-    ensures { result ≡ number }
-{
-    match Condition::new(number) {
-        Some(condition) => condition,
-        None => unreachable!(),
-    }
-}
-
 // The verdict on a set, by its contents.
 pub(crate) fn judge<'a>(
     alloc: Global,
@@ -37,7 +25,7 @@ pub(crate) fn judge<'a>(
 {
     match read_attribute_set(alloc, contents)? {
         Some(attributes) => Ok(rehearse_step(hardware, state, &attributes)),
-        None => Ok(Rehearsed::Refuse(condition(16))),
+        None => Ok(Rehearsed::Refuse(Condition::numbered(16))),
     }
 }
 

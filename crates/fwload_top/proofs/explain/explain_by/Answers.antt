@@ -1,6 +1,6 @@
 use Rattle.std.proofs.Common.{List, ℕ, [], None, refl, sym, subst}
 use Rattle.module_store.specs.Store.{manifest_of}
-use Rattle.report_text.specs.Lines.{lengths}
+use Rattle.config_table.specs.Stored.{lengths}
 use Rattle.judge_core.specs.Verdicts.{bench}
 use Rattle.fwload_top.specs.Reply.{Replies}
 use Rattle.fwload_top.specs.Standing.{StandsAt}

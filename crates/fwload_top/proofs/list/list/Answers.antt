@@ -1,20 +1,12 @@
-use Rattle.std.proofs.Common.{◌≡◌, List, ℕ, Err, refl, ap, subst, sym}
+use Rattle.std.proofs.Common.{List, ℕ, refl, subst, sym}
 use Rattle.module_store.specs.Store.{IsStoreOf}
-use Rattle.module_store.specs.declared.fault.OpenFault.{OpenFault}
 use Rattle.module_store.specs.declared.fault.OpenFault.TheVariants as faults
-use Rattle.fwload_top.specs.declared.status.Status.TheVariants.{NotAModule}
 use Rattle.fwload_top.specs.List.{list}
 use Rattle.fwload_top.specs.List.Outcome.{no_module}
-use Rattle.fwload_top.proofs.MakingLemmas.{ok_no_err, other_err}
-use Rattle.fwload_top.proofs.AnswersOnceLemmas.{quiet_touched, wrote_unchanged, poised, supplied_none, failed_run}
-use Rattle.fwload_top.proofs.AnswersOnceLemmas.{no_memory_run, silent_run, run_after}
+use Rattle.fwload_top.proofs.MakingLemmas.{ok_no_err}
+use Rattle.fwload_top.proofs.AnswersOnceLemmas.{quiet_touched, run_after}
+use Rattle.fwload_top.proofs.UnopenedLemmas.{says_no_module, unopened_run}
 use Rattle.fwload_top.proofs.list.list.Goals as goal
-
-no_module_is_no_fault : (f : OpenFault) → f ≡ faults.NotAModule → f ≡ faults.Fault → ⊥
-no_module_is_no_fault f is fault = cc
-
-memory_is_no_fault : (f : OpenFault) → f ≡ faults.Memory → f ≡ faults.Fault → ⊥
-memory_is_no_fault f is fault = cc
 
 pub list_store-requires : goal.list_store-requires
 list_store-requires g c =
@@ -36,44 +28,15 @@ returns-in-Ok g c =
           c.list_store.result (c.list_store.ensures.runs source);
     }
 
-pub returns-in-Err-NotAModule : goal.returns-in-Err-NotAModule
-returns-in-Err-NotAModule g c =
-    let start = g.B.Board.view c.args.board.now in
-    let mid = g.B.Board.view c.open.new.board in
-    let opened = c.in-Err-NotAModule.ensures in
-    let no_fault = no_module_is_no_fault c.in-Err-NotAModule.field-0 c.in-Err-NotAModule.field-0-is in
-    let quiet = quiet_touched start mid (g.met.B.Board.honest c.args.board.now) opened.touches
-    (opened.calm (other_err c.in-Err-NotAModule.field-0 faults.Fault no_fault)) in record {
-      runs = λ source. silent_run list source source start mid mid no_module
-          (poised list source source start mid no_module quiet (λ cells. refl)
-          (record {
-            cells = λ told m standing held.
-                opened.not_a_module told (ap (λ (f : OpenFault). Err f) c.in-Err-NotAModule.field-0-is) m held.0 held.1
-                held.2;
-            blocks = tt;
-            input = tt;
-          })
-          (λ is. absurd is)) (supplied_none source start) NotAModule tt refl refl;
-    }
-
-pub returns-in-Err-Fault : goal.returns-in-Err-Fault
-returns-in-Err-Fault g c =
-    let start = g.B.Board.view c.args.board.now in
-    let mid = g.B.Board.view c.open.new.board in
-    let opened = c.in-Err-Fault.ensures in record {
-      runs = λ source. failed_run list source source start mid
-          (wrote_unchanged list source.left start mid (g.met.B.Board.honest c.args.board.now) opened.touches
-          opened.later) (supplied_none source start)
-          (opened.fault (ap (λ (f : OpenFault). Err f) c.in-Err-Fault.field-0-is));
-    }
-
-pub returns-in-Err-Memory : goal.returns-in-Err-Memory
-returns-in-Err-Memory g c =
-    let start = g.B.Board.view c.args.board.now in
-    let mid = g.B.Board.view c.open.new.board in
-    let opened = c.in-Err-Memory.ensures in
-    let no_fault = memory_is_no_fault c.in-Err-Memory.field-0 c.in-Err-Memory.field-0-is in
-    let quiet = quiet_touched start mid (g.met.B.Board.honest c.args.board.now) opened.touches
-    (opened.calm (other_err c.in-Err-Memory.field-0 faults.Fault no_fault)) in record {
-      runs = λ source. no_memory_run list source source start mid quiet (supplied_none source start);
+pub returns-in-Err : goal.returns-in-Err
+returns-in-Err g c =
+    let opened = c.in-Err.ensures in record {
+      runs = λ source. unopened_run list no_module says_no_module source (g.B.Board.view c.args.board.now)
+          (g.B.Board.view c.open.new.board) (g.met.B.Board.honest c.args.board.now) c.in-Err.fault (record {
+            touches = opened.touches;
+            later = opened.later;
+            calm = opened.calm;
+            failed = opened.fault;
+            none = opened.not_a_module;
+          }) c.from.result c.from.ensures;
     }

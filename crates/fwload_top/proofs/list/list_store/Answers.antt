@@ -2,7 +2,7 @@ use Rattle.std.proofs.Common.{List, ℕ, ◌++◌, refl, subst, ap, ◌∙◌}
 use Rattle.key_state.specs.KeyBlock.{row_of}
 use Rattle.key_state.specs.Row.{spent_in}
 use Rattle.module_store.specs.Store.{manifest_of}
-use Rattle.report_text.specs.Lines.{lengths}
+use Rattle.config_table.specs.Stored.{lengths}
 use Rattle.report_text.specs.ListLines.{list_lines}
 use Rattle.fwload_top.specs.declared.status.Status.TheVariants.{Done}
 use Rattle.fwload_top.specs.Reply.{Replies}
