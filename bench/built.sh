@@ -1,8 +1,6 @@
-# What the scripts begin with that time a library: a program is built over copies of the crates, in a folder
-# that is removed at the end. Source it after `cd` to the top of the repository. It needs GNU time.
-set -euo pipefail
-room=$(mktemp -d)
-trap 'rm -rf "$room"' EXIT
+# What the scripts begin with that time a library: a program is built over copies of the crates. Source it after
+# `cd` to the top of the repository. It needs GNU time.
+. bench/room.sh
 
 # Builds the program of this name, whose main file comes on standard input, over these crates and those below
 # them, of the repository.

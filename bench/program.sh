@@ -1,10 +1,8 @@
-# What the scripts that run the built program begin with: the top of the repository, the program, and
-# a folder that is removed at the end. Source it after `cd`.
-set -euo pipefail
+# What the scripts begin with that run the built program. Source it after `cd` to the top of the repository. It
+# needs GNU time.
+. bench/room.sh
 program=$PWD/crates/fwload/out/fwload
 [ -x "$program" ] || { echo "bench: there is no $program; run ./demo first" >&2; exit 1; }
-room=$(mktemp -d)
-trap 'rm -rf "$room"' EXIT
 
 # The program over an input, with the words that follow: the seconds, and the most memory that it held.
 measured() {

@@ -3,6 +3,7 @@
 # those of the kit's own sha2 on single blocks. It needs the built program (./demo builds it).
 cd "$(dirname "$0")/.."
 . bench/program.sh
+. bench/blocks.sh
 runs=1000
 
 # two signatures with H5 and W8: 2 * 34 chains, and a few blocks more for messages and trees
@@ -39,32 +40,4 @@ empty=$(time_of "$room/empty")
 signed=$(time_of "$room/signed")
 echo "sigcheck: $((runs * steps * 1000 / (signed - empty))) thousand chain steps a second" \
     "($steps of one block each in a run; the start of the process is taken off)"
-
-# The same of the kit's sha2 alone, by a program that is built for it.
-mkdir -p "$room/crates/one_block/src"
-(
-    cd "$room"
-    printf 'one_block: sha2\n' >crates.txt
-    cat >crates/one_block/src/main.rt <<'RATTLE'
-//! Single blocks of SHA-256: 55 octets a digest.
-#![tactic(auto)]
-
-use sha2::{Digest, Sha256};
-use std::io;
-
-fn main(rt: HostRuntime) -> io::Result<()> {
-    let mut input = [7u8; 55];
-    for _ in 0..4_000_000u32 {
-        let digest = Sha256::digest(&input);
-        input[23..].copy_from_slice(&digest);
-    }
-    println!(rt; "{}", input[30])?;
-    Ok(())
-}
-RATTLE
-    cd crates/one_block
-    rt run >"$room/run.txt" 2>&1 || { cat "$room/run.txt" >&2; exit 1; }
-    began=$(date +%s%N)
-    ./out/one_block >"$room/line"
-    echo "sha2 alone: $((4000000 * 1000000 / ($(date +%s%N) - began))) thousand blocks a second"
-)
+echo "sha2 alone: $(rate_of_sha2 4000000) thousand blocks a second"
