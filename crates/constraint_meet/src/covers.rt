@@ -25,7 +25,7 @@ fn is_target_hardware(kind: &[u8]) -> bool
 
 /// Whether a listed value of this type of attributes covers itself alone.
 pub fn is_by_octets(kind: &[u8]) -> bool
-    ensures { result ≡ is_by_octets kind.now }
+    ensures octets { result ≡ is_by_octets kind.now }
 {
     !is_package_id(kind) && !is_target_hardware(kind)
 }
@@ -42,7 +42,8 @@ fn covers(kind: &[u8], listed: &[u8], value: &[u8]) -> bool
 /// attribute of this type. Compares it with each of them.
 pub fn one_covers(kind: &[u8], listed: &[u8], value: &[u8]) -> bool
     requires elements { IsTrue (are_elements listed.now) }
-    ensures { result ≡ list_any (λ one. covers kind.now one value.now) (values_in listed.now) }
+    ensures covered { result
+        ≡ list_any (λ one. covers kind.now one value.now) (values_in listed.now) }
 {
     let mut items = Cursor::new(listed);
     while let Some((_, _, one)) = items.next() {

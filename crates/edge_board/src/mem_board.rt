@@ -190,8 +190,8 @@ impl Board for MemBoard {
     }
 
     fn read(&mut self, at: u32, into: &mut [u8]) -> Result<(), Failed>
-        requires { at + length into.old ≤ 4096 * (mem_view self.old).blocks }
-        ensures call { ReadsAt (Unit {0}) (Unit {0}) at into.new (mem_view self.old)
+        requires within { at + length into.old ≤ 4096 * (mem_view self.old).blocks }
+        ensures reads { ReadsAt (Unit {0}) (Unit {0}) at into.new (mem_view self.old)
             (mem_view self.new) result }
         ensures fails { IsErr result ↔ IsToFail 0 (board_plan self.old) }
         ensures plan { GoesOn 0 (board_plan self.old) (board_plan self.new) result }
@@ -204,8 +204,8 @@ impl Board for MemBoard {
     }
 
     fn erase(&mut self, block: u32) -> Result<(), Failed>
-        requires { block < (mem_view self.old).blocks }
-        ensures call { ErasesBlock (Unit {0}) (Unit {0}) block (mem_view self.old)
+        requires within { block < (mem_view self.old).blocks }
+        ensures erases { ErasesBlock (Unit {0}) (Unit {0}) block (mem_view self.old)
             (mem_view self.new) result }
         ensures fails { IsErr result ↔ IsToFail 0 (board_plan self.old) }
         ensures plan { GoesOn 0 (board_plan self.old) (board_plan self.new) result }
@@ -227,8 +227,8 @@ impl Board for MemBoard {
     }
 
     fn program(&mut self, at: u32, bytes: &[u8]) -> Result<(), Failed>
-        requires { at + length bytes.now ≤ 4096 * (mem_view self.old).blocks }
-        ensures call { ProgramsAt (Unit {0}) (Unit {0}) at bytes.now (mem_view self.old)
+        requires within { at + length bytes.now ≤ 4096 * (mem_view self.old).blocks }
+        ensures programs { ProgramsAt (Unit {0}) (Unit {0}) at bytes.now (mem_view self.old)
             (mem_view self.new) result }
 
         // It needs room for all of its octets.
@@ -245,8 +245,8 @@ impl Board for MemBoard {
     }
 
     fn blank(&mut self, at: u32) -> Result<(), Failed>
-        requires { at < 4096 * (mem_view self.old).blocks }
-        ensures call { BlanksAt (Unit {0}) (Unit {0}) at (mem_view self.old) (mem_view self.new)
+        requires within { at < 4096 * (mem_view self.old).blocks }
+        ensures blanks { BlanksAt (Unit {0}) (Unit {0}) at (mem_view self.old) (mem_view self.new)
             result }
         ensures fails { IsErr result ↔ IsToFail 0 (board_plan self.old) }
         ensures plan { GoesOn 0 (board_plan self.old) (board_plan self.new) result }
@@ -260,7 +260,7 @@ impl Board for MemBoard {
     }
 
     fn sync(&mut self) -> Result<(), Failed>
-        ensures call { Syncs (Unit {0}) (Unit {0}) (mem_view self.old) (mem_view self.new) result }
+        ensures syncs { Syncs (Unit {0}) (Unit {0}) (mem_view self.old) (mem_view self.new) result }
         ensures fails { IsErr result ↔ IsToFail 0 (board_plan self.old) }
         ensures plan { GoesOn 0 (board_plan self.old) (board_plan self.new) result }
         ensures failed { OnErr result (StandsStill (mem_view self.old) (mem_view self.new)) }
@@ -278,7 +278,7 @@ impl Board for MemBoard {
     }
 
     fn send(&mut self, bytes: &[u8]) -> Result<usize, Failed>
-        ensures call { SendsSome (Unit {0}) (Unit {0}) bytes.now (mem_view self.old)
+        ensures sends { SendsSome (Unit {0}) (Unit {0}) bytes.now (mem_view self.old)
             (mem_view self.new) result }
 
         // It needs room for one octet, if there is any, and takes as many as there is room for.

@@ -74,8 +74,8 @@ impl Board for SureBoard {
     }
 
     fn read(&mut self, at: u32, into: &mut [u8]) -> Result<(), Failed>
-        requires { at + length into.old ≤ 4096 * (sure_view self.old).blocks }
-        ensures call { ReadsAt (Unit {0}) ⊥ at into.new (sure_view self.old) (sure_view self.new)
+        requires within { at + length into.old ≤ 4096 * (sure_view self.old).blocks }
+        ensures reads { ReadsAt (Unit {0}) ⊥ at into.new (sure_view self.old) (sure_view self.new)
             result }
         ensures ok { IsOk result }
     {
@@ -84,8 +84,8 @@ impl Board for SureBoard {
     }
 
     fn erase(&mut self, block: u32) -> Result<(), Failed>
-        requires { block < (sure_view self.old).blocks }
-        ensures call { ErasesBlock (Unit {0}) ⊥ block (sure_view self.old) (sure_view self.new)
+        requires within { block < (sure_view self.old).blocks }
+        ensures erases { ErasesBlock (Unit {0}) ⊥ block (sure_view self.old) (sure_view self.new)
             result }
         ensures ok { IsOk result }
     {
@@ -95,8 +95,8 @@ impl Board for SureBoard {
     }
 
     fn program(&mut self, at: u32, bytes: &[u8]) -> Result<(), Failed>
-        requires { at + length bytes.now ≤ 4096 * (sure_view self.old).blocks }
-        ensures call { ProgramsAt (Unit {0}) ⊥ at bytes.now (sure_view self.old)
+        requires within { at + length bytes.now ≤ 4096 * (sure_view self.old).blocks }
+        ensures programs { ProgramsAt (Unit {0}) ⊥ at bytes.now (sure_view self.old)
             (sure_view self.new) result }
         ensures ok { IsOk result }
     {
@@ -105,8 +105,9 @@ impl Board for SureBoard {
     }
 
     fn blank(&mut self, at: u32) -> Result<(), Failed>
-        requires { at < 4096 * (sure_view self.old).blocks }
-        ensures call { BlanksAt (Unit {0}) ⊥ at (sure_view self.old) (sure_view self.new) result }
+        requires within { at < 4096 * (sure_view self.old).blocks }
+        ensures blanks { BlanksAt (Unit {0}) ⊥ at (sure_view self.old) (sure_view self.new)
+            result }
         ensures ok { IsOk result }
     {
         mark_filled(&mut self.pending, &mut self.cells, at as usize, 1, 0);
@@ -114,7 +115,7 @@ impl Board for SureBoard {
     }
 
     fn sync(&mut self) -> Result<(), Failed>
-        ensures call { Syncs (Unit {0}) ⊥ (sure_view self.old) (sure_view self.new) result }
+        ensures syncs { Syncs (Unit {0}) ⊥ (sure_view self.old) (sure_view self.new) result }
         ensures ok { IsOk result }
     {
         clear_flags(&mut self.pending);
@@ -122,7 +123,7 @@ impl Board for SureBoard {
     }
 
     fn send(&mut self, bytes: &[u8]) -> Result<usize, Failed>
-        ensures call { SendsSome (Unit {0}) ⊥ bytes.now (sure_view self.old) (sure_view self.new)
+        ensures sends { SendsSome (Unit {0}) ⊥ bytes.now (sure_view self.old) (sure_view self.new)
             result }
 
         // It takes all of them.

@@ -26,7 +26,7 @@ returns-clause-streamed g c = λ content image fed skip imaged.
       reads = λ told numbers e left leaves.
           let new = g.B.Board.view c.sync.new.self in
           let old = g.B.Board.view c.args.board.now in
-          let same : left ≡ old.cells = settled_image new (c.in_ok-sync.ensures.settled told) left leaves ∙ c.sync.ensures.cells told in
+          let same : left ≡ old.cells = settled_image new (c.in_ok-sync.ensures.syncs.settled told) left leaves ∙ c.sync.ensures.syncs.cells told in
           let some : IsSome s.blocks = subst (λ (o : Option (List ℕ)). IsSome o) (sym e) (search rules) in
           let number = ap (λ (o : Option (List ℕ)). unwrap_or o []) e in
           ap (λ l. image_at s.base numbers (length image) l) same

@@ -31,21 +31,21 @@ pub returns-in_err-blank-clause-touches : goal.returns-in_err-blank-clause-touch
 returns-in_err-blank-clause-touches g c =
     at_blank c.args.leaves _ _ c.spent.ensures.touches c.in_ok-number.number
     (λ told. c.in_ok-number.ensures.count told) (omega (arith, c.in_ok-number.ensures.below)) _
-    (g.met.B.Board.honest c.spent.new.board) c.blank.ensures.effect
+    (g.met.B.Board.honest c.spent.new.board) c.blank.ensures.blanks.effect
 
 pub returns-in_err-sync-clause-touches : goal.returns-in_err-sync-clause-touches
 returns-in_err-sync-clause-touches g c =
     at_sync c.args.leaves _ _ c.spent.ensures.touches c.in_ok-number.number
     (λ told. c.in_ok-number.ensures.count told) (omega (arith, c.in_ok-number.ensures.below)) _
-    (g.met.B.Board.honest c.spent.new.board) c.blank.ensures.effect _
-    (g.met.B.Board.honest c.blank.new.self) c.sync.ensures.effect
+    (g.met.B.Board.honest c.spent.new.board) c.blank.ensures.blanks.effect _
+    (g.met.B.Board.honest c.blank.new.self) c.sync.ensures.syncs.effect
 
 pub returns-clause-touches : goal.returns-clause-touches
 returns-clause-touches g c =
     at_sync c.args.leaves _ _ c.spent.ensures.touches c.in_ok-number.number
     (λ told. c.in_ok-number.ensures.count told) (omega (arith, c.in_ok-number.ensures.below)) _
-    (g.met.B.Board.honest c.spent.new.board) c.blank.ensures.effect _
-    (g.met.B.Board.honest c.blank.new.self) c.sync.ensures.effect
+    (g.met.B.Board.honest c.spent.new.board) c.blank.ensures.blanks.effect _
+    (g.met.B.Board.honest c.blank.new.self) c.sync.ensures.syncs.effect
 
 pub returns-clause-row : goal.returns-clause-row
 returns-clause-row g c = λ told.
@@ -54,9 +54,9 @@ returns-clause-row g c = λ told.
     row_used c.args.leaves _ _
     (row_fits told c.args.leaves _ (g.met.B.Board.honest c.args.board.now) c.requires.leaves c.requires.blocks)
     (omega (arith, is, c.in_ok-number.ensures.below)) ((returns-clause-touches g c).cells told)
-    (ap (λ (l : List ℕ). cell l (row_start + first)) (c.sync.ensures.cells told)
+    (ap (λ (l : List ℕ). cell l (row_start + first)) (c.sync.ensures.syncs.cells told)
     ∙ ap (λ (k : ℕ). cell (g.B.Board.view c.blank.new.self).cells (row_start + k)) (sym is)
-    ∙ c.in_ok-blank.ensures.reads told)
+    ∙ c.in_ok-blank.ensures.blanks.reads told)
 
 pub returns-then-number-leaves-clause-all_spent : goal.returns-then-number-leaves-clause-all_spent
 returns-then-number-leaves-clause-all_spent g c = λ told is.

@@ -11,7 +11,7 @@ invariant_of-self-clause-flags c =
     long_flags c.args.self.now c.args.at 1 c.mark_filled.new.cells.items _
     c.mark_filled.ensures.pending
 
-pub returns-clause-call : goal.returns-clause-call
-returns-clause-call c =
+pub returns-clause-blanks : goal.returns-clause-blanks
+returns-clause-blanks c =
     sure_blank c.args.self.now _ c.args.at _ _ c.mark_filled.ensures.pending
-    c.mark_filled.ensures.cells c.requires
+    c.mark_filled.ensures.cells c.requires.within

@@ -12,7 +12,7 @@ invariant_of-self-clause-flags c =
     long_flags c.args.self.now (4096 * c.args.block) 4096 c.mark_filled.new.cells.items _
     c.mark_filled.ensures.pending
 
-pub returns-clause-call : goal.returns-clause-call
-returns-clause-call c =
+pub returns-clause-erases : goal.returns-clause-erases
+returns-clause-erases c =
     sure_erase c.args.self.now _ c.args.block _ _ c.mark_filled.ensures.pending
-    c.mark_filled.ensures.cells c.requires
+    c.mark_filled.ensures.cells c.requires.within

@@ -12,7 +12,7 @@ invariant_of-self-clause-flags c =
     long_flags c.args.self.now c.args.at (length c.args.bytes.now) c.mark_written.new.cells.items _
     c.mark_written.ensures.pending
 
-pub returns-clause-call : goal.returns-clause-call
-returns-clause-call c =
+pub returns-clause-programs : goal.returns-clause-programs
+returns-clause-programs c =
     sure_program c.args.self.now _ c.args.at c.args.bytes.now _ _ c.mark_written.ensures.pending
-    c.mark_written.ensures.cells c.requires
+    c.mark_written.ensures.cells c.requires.within

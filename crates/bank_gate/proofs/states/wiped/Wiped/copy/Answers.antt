@@ -38,28 +38,28 @@ overflow_mul-from g c = omega (arith, c.requires.from, (g.met.B.Board.honest c.a
 
 pub returns-in_err-program-clause-touches : goal.returns-in_err-program-clause-touches
 returns-in_err-program-clause-touches g c =
-    copied c.args.to _ _ _ _ (omega arith) (g.met.B.Board.honest c.args.board.now) c.read.ensures.effect
-    (g.met.B.Board.honest c.read.new.self) c.program.ensures.effect
+    copied c.args.to _ _ _ _ (omega arith) (g.met.B.Board.honest c.args.board.now) c.read.ensures.reads.effect
+    (g.met.B.Board.honest c.read.new.self) c.program.ensures.programs.effect
 
 pub returns-clause-touches : goal.returns-clause-touches
 returns-clause-touches g c =
-    copied c.args.to _ _ _ _ (omega arith) (g.met.B.Board.honest c.args.board.now) c.read.ensures.effect
-    (g.met.B.Board.honest c.read.new.self) c.program.ensures.effect
+    copied c.args.to _ _ _ _ (omega arith) (g.met.B.Board.honest c.args.board.now) c.read.ensures.reads.effect
+    (g.met.B.Board.honest c.read.new.self) c.program.ensures.programs.effect
 
 pub returns-in_err-program-clause-shut : goal.returns-in_err-program-clause-shut
 returns-in_err-program-clause-shut g c = λ told.
-    still_shut c.args.to _ _ _ _ (omega arith) (g.met.B.Board.honest c.args.board.now) c.read.ensures.effect
-    (g.met.B.Board.honest c.read.new.self) c.program.ensures.effect
+    still_shut c.args.to _ _ _ _ (omega arith) (g.met.B.Board.honest c.args.board.now) c.read.ensures.reads.effect
+    (g.met.B.Board.honest c.read.new.self) c.program.ensures.programs.effect
     c.args.self (subst IsPlace c.self.view_is c.self.invariant) c.requires.to told (c.requires.shut told)
 
 pub returns-clause-shut : goal.returns-clause-shut
 returns-clause-shut g c = λ told.
-    still_shut c.args.to _ _ _ _ (omega arith) (g.met.B.Board.honest c.args.board.now) c.read.ensures.effect
-    (g.met.B.Board.honest c.read.new.self) c.program.ensures.effect
+    still_shut c.args.to _ _ _ _ (omega arith) (g.met.B.Board.honest c.args.board.now) c.read.ensures.reads.effect
+    (g.met.B.Board.honest c.read.new.self) c.program.ensures.programs.effect
     c.args.self (subst IsPlace c.self.view_is c.self.invariant) c.requires.to told (c.requires.shut told)
 
 pub returns-clause-reads : goal.returns-clause-reads
 returns-clause-reads g c = λ told.
     same c.args.from c.args.to (g.B.Board.view c.args.board.now).cells _ _ c.read.new.into (omega arith)
-    (c.in_ok-read.ensures.octets told) (c.in_ok-program.ensures.reads told) (c.requires.blank told)
-    (λ i. (c.read.ensures.effect.cells told).each i (λ none. none))
+    (c.in_ok-read.ensures.reads.octets told) (c.in_ok-program.ensures.programs.reads told) (c.requires.blank told)
+    (λ i. (c.read.ensures.reads.effect.cells told).each i (λ none. none))
