@@ -1,12 +1,13 @@
 -- Attributes that are written in the order of DER.
 use Rattle.std.proofs.Common.{◌≡◌, ℕ, List, [], ◌∷◌, map, refl, sym, ap, ap₂, ◌∙◌, subst}
-use Rattle.std.specs.List.{AllByRecursion, IsDistinct}
+use Rattle.std.specs.List.{AllByRecursion, IsDistinct, concat}
 use Rattle.std.specs.Option.{option_map_or}
 use Rattle.std.specs.List.Sorted.{IsSorted, IsPermutation}
 use Rattle.std.specs.Ordering.{nat_cmp}
 use Rattle.std.specs.Cmp.Lexicographic.{slice_cmp}
 use Rattle.std.specs.Prelude.{bytes_eq}
 use Rattle.std.proofs.lemmas.Cmp.{nat_list_eq_equiv}
+use Rattle.std.proofs.lemmas.List.Concat.{concat_is}
 use Rattle.std.proofs.lemmas.List.Folds.{flat_map-map}
 use Rattle.std.proofs.lemmas.List.Elements.{All-from_recursion, recursion_from_All}
 use Rattle.std.proofs.lemmas.List.Sorted.{IsPermutation-map, All-permutation}
@@ -14,7 +15,7 @@ use Rattle.std.proofs.lemmas.Map.Keys.{IsDistinct-IsPermutation}
 use Rattle.der_core.specs.Attribute.{Attribute, attribute_text, IsAttribute}
 use Rattle.der_core.specs.AttributeReading.{attribute_of}
 use Rattle.der_core.proofs.AttributeLaws.{attr-whole}
-use Rattle.der_write.specs.Sets.{joined, IsSetContents}
+use Rattle.der_write.specs.Sets.{IsSetContents}
 use Rattle.attribute_set.specs.AttributeSet.{set_contents, IsAttributeSet}
 
 -- ---- texts and the attributes whose texts they are
@@ -71,5 +72,6 @@ sorted_set attributes octets each distinct (ordered, ascends, is) =
         distinct = IsDistinct-IsPermutation bytes_eq nat_list_eq_equiv.symm _ _
             (IsPermutation-map (λ (a : Attribute). a.kind) attributes (map attribute_with ordered) same) distinct;
       },
-      is ∙ ap joined (sym texts) ∙ flat_map-map (λ (text : List ℕ). text) attribute_text (map attribute_with ordered),
+      is ∙ ap concat (sym texts) ∙ concat_is (map attribute_text (map attribute_with ordered))
+          ∙ flat_map-map (λ (text : List ℕ). text) attribute_text (map attribute_with ordered),
     )

@@ -2,7 +2,7 @@
 //! `der_core` says so, by `element_is_read`), and a set has one text.
 
 ghost use Rattle.std.specs.Prelude.{◌≡◌, ◌++◌, ◌<◌, ◌^◌, ℕ, List, Some, length, IsPermutation};
-ghost use Rattle.std.specs.List.{AllByRecursion};
+ghost use Rattle.std.specs.List.{AllByRecursion, concat};
 ghost use Rattle.der_core.specs.Element.{enc};
 ghost use Rattle.der_core.specs.Number.{number_contents};
 ghost use Rattle.der_core.specs.Objects.{IsOid};
@@ -11,7 +11,7 @@ ghost use Rattle.der_core.specs.Shapes.{element, listed, any_element, IsOneEleme
 ghost use Rattle.der_core.specs.Time.{time_tag, time_contents};
 ghost use Rattle.der_core.specs.Moment.{IsMoment};
 ghost use Rattle.der_core.specs.TimeReading.{time_of};
-ghost use Rattle.der_write.specs.Sets.{joined, IsSetContents, IsSetOf};
+ghost use Rattle.der_write.specs.Sets.{IsSetContents, IsSetOf};
 
 /// A number that is written is read as that number.
 pub fn written_number_is_read()
@@ -35,8 +35,8 @@ pub fn written_time_is_read()
 /// A set that is written is read as its parts, in the order in which they stand.
 pub fn written_set_is_read()
     ensures { (parts : List (List ℕ)) (rest : List ℕ) → AllByRecursion IsOneElement parts
-        → length (joined parts) < 2 ^ 32
-        → element 0x31 (listed any_element) (enc 0x31 (joined parts) ++ rest)
+        → length (concat parts) < 2 ^ 32
+        → element 0x31 (listed any_element) (enc 0x31 (concat parts) ++ rest)
         ≡ Some (parts, rest) }
 {}
 

@@ -1,6 +1,6 @@
 ghost use Rattle.std.specs.Prelude.{◌≡◌, ◌++◌, ◌<◌, ◌^◌, ℕ, List, length, map, OnOk, OnErr, IfOk};
-ghost use Rattle.std.specs.List.{flat_map};
-ghost use Rattle.der_write.specs.Sets.{joined, IsSetContents, IsSetOf, Ascends};
+ghost use Rattle.std.specs.List.{concat, flat_map};
+ghost use Rattle.der_write.specs.Sets.{IsSetContents, IsSetOf, Ascends};
 
 use crate::element::put_tlv;
 use der_core::tags;
@@ -44,7 +44,7 @@ pub fn sorted_contents(alloc: Global, parts: &[Vec<u8>]) -> Result<Vec<u8>, Allo
 /// Appends a SET OF the parts, each of them one element, in ascending order of their octets, in
 /// whatever order they come (X.690, section 11.6).
 pub fn put_set_sorted(alloc: Global, out: &mut Vec<u8>, parts: &[Vec<u8>]) -> Result<(), AllocError>
-    requires fits { length (joined (map (λ part. part.items) parts.now)) < 2 ^ 32 }
+    requires fits { length (concat (map (λ part. part.items) parts.now)) < 2 ^ 32 }
     ensures ok { OnOk result ((set : List ℕ) × IsSetOf (map (λ part. part.items) parts.now) set
         × (out.new.items ≡ out.old.items ++ set)) }
     ensures err { OnErr result (out.new.items ≡ out.old.items) }

@@ -1,7 +1,7 @@
 -- The signed attributes of a plan are a set that describes a package.
 use Rattle.std.proofs.Common.{◌≡◌, ℕ, zero, suc, ◌+◌, ◌*◌, ◌<◌, ◌≤◌, ◌^◌, inl, inr, true, false, is_some, List, [], ◌∷◌, ◌++◌, map, length, Option, Some, None, Contains, refl, sym, ◌∙◌, arith, lit<}
 use Rattle.std.specs.Prelude.{bytes_eq}
-use Rattle.std.specs.List.{AllByRecursion, IsDistinct}
+use Rattle.std.specs.List.{AllByRecursion, IsDistinct, concat}
 use Rattle.std.proofs.lemmas.Bool.{true≢false}
 use Rattle.std.proofs.lemmas.Cmp.{nat_list_eq_equiv}
 use Rattle.std.proofs.lemmas.List.{length-append, append-nil}
@@ -17,7 +17,7 @@ use Rattle.der_core.specs.Reading.{subidentifiers_of, subidentifiers_after, subi
 use Rattle.der_core.specs.Shapes.{text_if}
 use Rattle.der_core.proofs.Lengths.{length-enc-le}
 use Rattle.der_core.proofs.Objects.{is_oid}
-use Rattle.der_write.specs.Sets.{joined}
+use Rattle.der_write.proofs.Contents.{contents_length}
 use Rattle.attribute_set.specs.AttributeSet.{IsAttributeSet, set_contents}
 use Rattle.cms_signed.specs.Cut.{firmware_package, signed_data}
 use Rattle.package_attrs.specs.declared.community.Community.{Community}
@@ -37,7 +37,7 @@ use Rattle.attribute_write.specs.Communities.{community_of}
 use Rattle.packager.specs.PackagePlan.{PlannedPackage, IsPackagePlan, HasTexts, IsNamed}
 use Rattle.packager.specs.PlannedMessage.{planned_content, planned_description, planned_attributes, described_attributes}
 use Rattle.packager.specs.PlannedMessage.{one_value, value_if, named_communities, named_info, in_order}
-use Rattle.packager.proofs.Orders.{in_order_same, in_order_sorted, in_order_contents, set_size}
+use Rattle.packager.proofs.Orders.{in_order_same, in_order_sorted, in_order_contents}
 use Rattle.packager.proofs.TextSizes.{stale_size, targets_size, are_communities, communities_size, kind_size, dependencies_size}
 
 -- ---- identifiers
@@ -285,14 +285,14 @@ attribute_set p plan texts =
 -- ---- how long they are
 
 each_size : (all : List Attribute) → AllByRecursion IsShort all
-    → length (joined (map attribute_text all)) ≤ 2 ^ 21 * length all
+    → length (concat (map attribute_text all)) ≤ 2 ^ 21 * length all
 each_size [] short = omega arith
 each_size (a ∷ all) short =
     omega (
       arith,
       short.0.most,
       each_size all short.1,
-      length-append (attribute_text a) (joined (map attribute_text all)),
+      length-append (attribute_text a) (concat (map attribute_text all)),
     )
 
 count : (d : Description) (cs : Option (List Community)) (info : Option Info)
@@ -309,7 +309,7 @@ attributes_size p plan texts =
     let all = described_attributes (planned_description p) in
     omega (
       arith,
-      set_size (map attribute_text all) (set_contents (in_order all)) (in_order_contents all),
+      contents_length (map attribute_text all) (set_contents (in_order all)) (in_order_contents all),
       each_size all (each_attribute p plan texts),
       count (planned_description p) (named_communities (map community_of p.communities))
           (named_info p.kind p.dependencies),

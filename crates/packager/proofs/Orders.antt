@@ -3,12 +3,11 @@ use Rattle.std.proofs.Common.{◌≡◌, ℕ, zero, suc, ◌+◌, Bool, true, fa
 use Rattle.std.proofs.Common.{Ordering, Less, Equal, Greater, IsPermutation, IsSorted}
 use Rattle.std.specs.Ordering.{nat_cmp, is_lt, ordering_reverse}
 use Rattle.std.specs.Cmp.Lexicographic.{slice_cmp, nat_list_cmp_total}
-use Rattle.std.proofs.lemmas.List.Concat.{length-flat_map}
+use Rattle.std.proofs.lemmas.List.Concat.{concat_is}
 use Rattle.std.proofs.lemmas.List.Folds.{flat_map-map}
 use Rattle.std.proofs.lemmas.List.Sorted.{IsPermutation-refl, IsPermutation-trans, IsPermutation-cons, IsPermutation-middle, IsPermutation-map}
-use Rattle.std.proofs.lemmas.List.Sorted.{sum_by-IsPermutation}
 use Rattle.der_core.specs.Attribute.{Attribute, attribute_text}
-use Rattle.der_write.specs.Sets.{joined, IsSetContents}
+use Rattle.der_write.specs.Sets.{IsSetContents}
 use Rattle.attribute_set.specs.AttributeSet.{set_contents}
 use Rattle.packager.specs.PlannedMessage.{is_before, placed, in_order}
 
@@ -102,13 +101,6 @@ in_order_contents attributes = (
     same = IsPermutation-map attribute_text attributes (in_order attributes) (in_order_same attributes);
     ascending = in_order_sorted attributes;
   },
-  sym (flat_map-map (λ (text : List ℕ). text) attribute_text (in_order attributes)),
+  sym (concat_is (map attribute_text (in_order attributes))
+      ∙ flat_map-map (λ (text : List ℕ). text) attribute_text (in_order attributes)),
 )
-
--- a set has as many octets as its parts
-pub set_size : (parts : List (List ℕ)) (octets : List ℕ) → IsSetContents parts octets
-    → length octets ≡ length (joined parts)
-set_size parts octets (ordered, ascends, is) =
-    ap length is ∙ length-flat_map (λ (part : List ℕ). part) ordered
-    ∙ sum_by-IsPermutation (λ (part : List ℕ). length part) parts ordered ascends.same
-    ∙ sym (length-flat_map (λ (part : List ℕ). part) parts)

@@ -3,7 +3,7 @@ ghost use Rattle.std.specs.Prelude.{◌≡◌, ◌++◌, ◌+◌, ◌∷◌, [],
 ghost use Rattle.der_core.specs.Attribute.{Attribute, attribute_text};
 ghost use Rattle.attribute_set.specs.AttributeSet.{set_contents};
 ghost use Rattle.der_core.specs.Element.{enc};
-ghost use Rattle.der_write.specs.Sets.{joined};
+ghost use Rattle.std.specs.List.{concat};
 ghost use Rattle.attribute_write.specs.Communities.{community_of};
 ghost use Rattle.cms_signed.specs.Cut.{firmware_package};
 ghost use Rattle.cms_signed.specs.Signer.{signed_attributes_text};
@@ -41,8 +41,8 @@ fn push_attribute(
     ensures ok { OnOk result (map (λ part. part.items) parts.new.items
         ≡ map (λ part. part.items) parts.old.items
         ++ attribute_text (one_value kind.now value.now) ∷ []) }
-    ensures most { OnOk result (length (joined (map (λ part. part.items) parts.new.items))
-        ≤ length (joined (map (λ part. part.items) parts.old.items)) + length value.now + 82) }
+    ensures most { OnOk result (length (concat (map (λ part. part.items) parts.new.items))
+        ≤ length (concat (map (λ part. part.items) parts.old.items)) + length value.now + 82) }
 {
     let mut part = Vec::new(alloc);
     put_attribute(alloc, &mut part, kind, value)?;
@@ -56,8 +56,8 @@ fn push_content_type(alloc: Global, parts: &mut Vec<Vec<u8>>) -> Result<(), Allo
     ensures ok { OnOk result (map (λ part. part.items) parts.new.items
         ≡ map (λ part. part.items) parts.old.items
         ++ attribute_text (one_value content_type (enc 0x06 firmware_package)) ∷ []) }
-    ensures most { OnOk result (length (joined (map (λ part. part.items) parts.new.items))
-        ≤ length (joined (map (λ part. part.items) parts.old.items)) + 100) }
+    ensures most { OnOk result (length (concat (map (λ part. part.items) parts.new.items))
+        ≤ length (concat (map (λ part. part.items) parts.old.items)) + 100) }
 {
     let mut value = Vec::new(alloc);
     put_tlv(
@@ -74,8 +74,8 @@ fn push_digest(alloc: Global, parts: &mut Vec<Vec<u8>>, digest: &[u8; 32]) -> Re
     ensures ok { OnOk result (map (λ part. part.items) parts.new.items
         ≡ map (λ part. part.items) parts.old.items
         ++ attribute_text (one_value message_digest (enc 0x04 digest.now)) ∷ []) }
-    ensures most { OnOk result (length (joined (map (λ part. part.items) parts.new.items))
-        ≤ length (joined (map (λ part. part.items) parts.old.items)) + 120) }
+    ensures most { OnOk result (length (concat (map (λ part. part.items) parts.new.items))
+        ≤ length (concat (map (λ part. part.items) parts.old.items)) + 120) }
 {
     let mut value = Vec::new(alloc);
     put_tlv(alloc, &mut value, tags::OCTET_STRING, digest)?;
@@ -91,8 +91,8 @@ fn push_identifier(
     ensures ok { OnOk result (map (λ part. part.items) parts.new.items
         ≡ map (λ part. part.items) parts.old.items
         ++ attribute_text (one_value firmware_package_id (identifier_text (view identifier.now))) ∷ []) }
-    ensures most { OnOk result (length (joined (map (λ part. part.items) parts.new.items))
-        ≤ length (joined (map (λ part. part.items) parts.old.items)) + 300) }
+    ensures most { OnOk result (length (concat (map (λ part. part.items) parts.new.items))
+        ≤ length (concat (map (λ part. part.items) parts.old.items)) + 300) }
 {
     let mut value = Vec::new(alloc);
     put_identifier(alloc, &mut value, identifier)?;
@@ -105,8 +105,8 @@ fn push_targets(alloc: Global, parts: &mut Vec<Vec<u8>>, hw_types: &[Oid]) -> Re
     ensures ok { OnOk result (map (λ part. part.items) parts.new.items
         ≡ map (λ part. part.items) parts.old.items
         ++ attribute_text (one_value target_hardware_ids (targets_text hw_types.now)) ∷ []) }
-    ensures most { OnOk result (length (joined (map (λ part. part.items) parts.new.items))
-        ≤ length (joined (map (λ part. part.items) parts.old.items)) + 5000) }
+    ensures most { OnOk result (length (concat (map (λ part. part.items) parts.new.items))
+        ≤ length (concat (map (λ part. part.items) parts.old.items)) + 5000) }
 {
     let mut value = Vec::new(alloc);
     put_targets(alloc, &mut value, hw_types)?;
@@ -124,8 +124,8 @@ fn push_communities(
         ≡ map (λ part. part.items) parts.old.items
         ++ map attribute_text (value_if community_identifiers communities_text
         (named_communities (map community_of communities.now)))) }
-    ensures most { OnOk result (length (joined (map (λ part. part.items) parts.new.items))
-        ≤ length (joined (map (λ part. part.items) parts.old.items)) + 16000) }
+    ensures most { OnOk result (length (concat (map (λ part. part.items) parts.new.items))
+        ≤ length (concat (map (λ part. part.items) parts.old.items)) + 16000) }
 {
     if communities.is_empty() {
         return Ok(());
@@ -147,8 +147,8 @@ fn push_info(
         ≡ map (λ part. part.items) parts.old.items
         ++ map attribute_text (value_if firmware_package_info info_text
         (named_info kind dependencies.now))) }
-    ensures most { OnOk result (length (joined (map (λ part. part.items) parts.new.items))
-        ≤ length (joined (map (λ part. part.items) parts.old.items)) + 1000) }
+    ensures most { OnOk result (length (concat (map (λ part. part.items) parts.new.items))
+        ≤ length (concat (map (λ part. part.items) parts.old.items)) + 1000) }
 {
     if kind.is_none() && dependencies.is_empty() {
         return Ok(());
@@ -165,7 +165,7 @@ fn parts(alloc: Global, plan: &PackagePlan, digest: &[u8; 32]) -> Result<Vec<Vec
     ensures ok { IfOk result (λ parts. map (λ part. part.items) parts.items ≡ map attribute_text
         (described_attributes (planned_description (package_view plan.now)))) }
     ensures most { IfOk result (λ parts.
-        length (joined (map (λ part. part.items) parts.items)) ≤ 30000) }
+        length (concat (map (λ part. part.items) parts.items)) ≤ 30000) }
 {
     let mut parts = Vec::new(alloc);
     push_content_type(alloc, &mut parts)?;
@@ -183,7 +183,7 @@ fn sorted(alloc: Global, parts: &[Vec<u8>]) -> Result<Vec<u8>, AllocError>
         → map (λ part. part.items) parts.now ≡ map attribute_text attributes
         → contents.items ≡ set_contents (in_order attributes)) }
     ensures size { IfOk result (λ contents. length contents.items
-        ≡ length (joined (map (λ part. part.items) parts.now))) }
+        ≡ length (concat (map (λ part. part.items) parts.now))) }
 {
     one_set();
     sorted_contents(alloc, parts)

@@ -4,7 +4,8 @@ use Rattle.std.proofs.lemmas.Result.{IfOk-weaker}
 use Rattle.der_core.specs.Attribute.{attribute_text}
 use Rattle.attribute_set.specs.AttributeSet.{set_contents}
 use Rattle.packager.specs.PlannedMessage.{in_order}
-use Rattle.packager.proofs.Orders.{in_order_contents, set_size}
+use Rattle.der_write.proofs.Contents.{contents_length}
+use Rattle.packager.proofs.Orders.{in_order_contents}
 use Rattle.packager.proofs.attributes.sorted.Goals as goal
 
 pub returns-clause-ok : goal.returns-clause-ok
@@ -18,4 +19,4 @@ returns-clause-ok c =
 pub returns-clause-size : goal.returns-clause-size
 returns-clause-size c =
     IfOk-weaker c.sorted_contents.result _ _
-    (λ contents set. set_size (map (λ part. part.items) c.args.parts.now) contents.items set) c.sorted_contents.ensures.ok
+    (λ contents set. contents_length (map (λ part. part.items) c.args.parts.now) contents.items set) c.sorted_contents.ensures.ok
