@@ -12,10 +12,8 @@ use crate::package::read_list;
 use crate::tables::{read_packages, read_stale};
 use config_table::State;
 use der_core::{Cursor, read_u128, tags};
+use module_record::MOST_CAPACITY;
 use std::alloc::{AllocError, Global};
-
-// The greatest capacity of a module.
-const MOST_CAPACITY: u32 = 4096;
 
 // The greatest sequence number.
 const MOST_SEQUENCE: u128 = 0xffff_ffff_ffff_ffff;

@@ -10,15 +10,10 @@ ghost use Rattle.bank_layout.specs.Tables.{ReadsPackages, ReadsStale};
 
 use crate::format::Format;
 use crate::package::read_package;
-use config_table::{StaleEntry, State};
+use config_table::{MOST_PACKAGES, MOST_STALE_ENTRIES, StaleEntry, State};
 use der_core::Cursor;
 use package_attrs::{PackageName, read_name};
 use std::alloc::{AllocError, Global};
-
-// How many packages and how many stale entries there are at most.
-const MOST_PACKAGES: usize = 64;
-
-const MOST_STALE: usize = 256;
 
 // The state of the packages that octets are. None where they aren't, or are too many, or one is
 // named twice.
@@ -85,7 +80,7 @@ pub(crate) fn read_stale(contents: &[u8], state: State) -> Result<Option<State>,
         let Some(entry) = read_stale_entry(&mut items) else {
             return Ok(None);
         };
-        if tables.stale_entries() >= MOST_STALE {
+        if tables.stale_entries() >= MOST_STALE_ENTRIES {
             return Ok(None);
         }
         if tables.stale_of(&entry.last()).is_some() {

@@ -31,6 +31,7 @@ mod blocks;
 mod installed;
 mod key;
 mod laws;
+mod limits;
 mod names;
 mod stale_entry;
 mod state;
@@ -41,6 +42,7 @@ pub use laws::{
     images_stand_apart, names_stay_distinct, needs_after_a_package, new_names_go_last,
     packages_keep_their_places, stale_stays_stale,
 };
+pub use limits::{MOST_PACKAGES, MOST_STALE_ENTRIES};
 pub use names::{is_at_least, is_same};
 pub use stale_entry::StaleEntry;
 pub use state::State;

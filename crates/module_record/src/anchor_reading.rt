@@ -10,14 +10,12 @@ ghost use Rattle.module_record.specs.ModuleReading.{constraints_in, anchor_of, a
 ghost use Rattle.module_record.specs.ModuleView.{anchor_parts};
 
 use crate::key_record::array_of;
+use crate::limits::MOST_CONSTRAINTS;
 use crate::lists::Anchors;
 use cert_fields::Anchor;
 use der_core::{Cursor, Octets64, tags};
 use hss_chain::hss_key;
 use std::alloc::{AllocError, Global};
-
-// The most octets that an anchor's constraints have.
-const MOST_CONSTRAINTS: usize = 2048;
 
 // An anchor's parts, in their place.
 #[derive(Drop)]

@@ -23,6 +23,7 @@
 mod anchor_reading;
 mod key_record;
 mod laws;
+mod limits;
 mod lists;
 mod module;
 mod module_reading;
@@ -35,6 +36,7 @@ pub use laws::{
     one_key_record_each, one_module_record_each, records_tell_their_kind,
     short_modules_have_a_record,
 };
+pub use limits::{MOST_ANCHORS, MOST_CAPACITY, MOST_CONSTRAINTS, MOST_LISTED};
 pub use lists::{Anchors, Kinds, Oids};
 pub use module::Module;
 pub use module_reading::read_module;

@@ -9,6 +9,7 @@ ghost use Rattle.module_record.specs.declared.module.Module.{Module};
 
 use crate::anchor_reading::read_anchors;
 use crate::key_record::read_key;
+use crate::limits::{MOST_ANCHORS, MOST_CAPACITY, MOST_LISTED};
 use crate::lists::{Anchors, Kinds, Oids};
 use crate::module::Module;
 use der_core::{Cursor, Octets64, Oid, read_oid, read_u128, tags};
@@ -17,15 +18,6 @@ use std::alloc::{AllocError, Global};
 
 // What makes a record one of a module, and not of a key.
 pub(crate) const MODULE_RECORD: u128 = 1;
-
-// The most blocks that images may have together.
-const MOST_CAPACITY: u128 = 4096;
-
-// The most communities, and the most package types.
-const MOST_LISTED: usize = 64;
-
-// The most anchors.
-const MOST_ANCHORS: usize = 16;
 
 // The lists of a module record, as octets, and what stands between and behind them.
 #[derive(Drop)]
@@ -83,7 +75,7 @@ fn read_capacity(fields: &mut Cursor<'_>) -> Option<u32>
     ensures exact { Answers (λ n. (n, fields.new)) result (capacity_at fields.old) }
 {
     let number = read_u128(fields.tagged(tags::INTEGER)?)?;
-    if number < 1 || number > MOST_CAPACITY {
+    if number < 1 || number > u128::from(MOST_CAPACITY) {
         return None;
     }
     Some(number as u32)

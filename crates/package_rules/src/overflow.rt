@@ -7,15 +7,9 @@ ghost use Rattle.config_table.specs.Stored.{Stored};
 ghost use Rattle.package_rules.specs.Conditions.{overflow_conditions};
 ghost use Rattle.package_rules.specs.Deciding.{adds_stale_entry};
 
-use config_table::{StaleEntry, State};
+use config_table::{MOST_PACKAGES, MOST_STALE_ENTRIES, StaleEntry, State};
 use der_core::Condition;
 use package_attrs::Package;
-
-// How many packages a module has installed at most.
-const MOST_PACKAGES: usize = 64;
-
-// How many stale entries a module has at most.
-const MOST_STALE_ENTRIES: usize = 256;
 
 /// The first of the conditions 39 and 40 that the package fails, or None where it fails none:
 /// with it, at most 64 packages are installed and at most 256 stale entries are there. Takes no

@@ -13,10 +13,8 @@ use crate::name_word::name_in;
 use crate::words::{hex_in, hex64_in};
 use cert_fields::Anchor;
 use hss_chain::hss_key;
+use module_record::MOST_CONSTRAINTS;
 use std::alloc::{AllocError, Global};
-
-// The most octets of an anchor's constraints.
-const CONSTRAINTS_MOST: usize = 2048;
 
 // The words of an anchor: NAME, KEYID, KEY and CCC.
 #[derive(Drop)]
@@ -71,7 +69,7 @@ fn constraint_octets_in(alloc: Global, word: &[u8]) -> Result<Option<Option<Vec<
     let Some(octets) = hex_in(alloc, word)? else {
         return Ok(None);
     };
-    if octets.len() > CONSTRAINTS_MOST {
+    if octets.len() > MOST_CONSTRAINTS {
         return Ok(None);
     }
     Ok(Some(Some(octets)))

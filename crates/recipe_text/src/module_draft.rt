@@ -13,15 +13,8 @@ use crate::words::{hex64_in, number_in};
 use cert_fields::Anchor;
 use der_core::{Octets64, Oid};
 use lms_sign::SignKey;
-use module_record::{Anchors, Kinds, Module, Oids};
+use module_record::{Anchors, Kinds, MOST_ANCHORS, MOST_LISTED, Module, Oids};
 use std::alloc::{AllocError, Global};
-
-// The most lines of communities, of package types and of anchors.
-const COMMUNITIES: usize = 64;
-
-const KINDS: usize = 64;
-
-const ANCHORS: usize = 16;
 
 // What lines say of a module.
 #[derive(Drop)]
@@ -80,9 +73,9 @@ impl ModuleDraft {
             ModuleKind::Serial => Ok(fill(&mut self.serial, hex64_in(alloc, text)?)),
             ModuleKind::Capacity => Ok(fill(&mut self.capacity, capacity_in(text))),
             ModuleKind::Key => Ok(fill(&mut self.key, key_behind(text))),
-            ModuleKind::Community => add(&mut self.communities, COMMUNITIES, oid_in(alloc, text)?),
-            ModuleKind::Type => add(&mut self.kinds, KINDS, number_in(text)),
-            ModuleKind::Anchor => add(&mut self.anchors, ANCHORS, anchor_in(alloc, text)?),
+            ModuleKind::Community => add(&mut self.communities, MOST_LISTED, oid_in(alloc, text)?),
+            ModuleKind::Type => add(&mut self.kinds, MOST_LISTED, number_in(text)),
+            ModuleKind::Anchor => add(&mut self.anchors, MOST_ANCHORS, anchor_in(alloc, text)?),
         }
     }
 

@@ -6,9 +6,7 @@ ghost use Rattle.recipe_text.specs.Words.{Exactly};
 
 use crate::cut::is_word;
 use crate::words::number_in;
-
-// The most blocks that the installed images may have together.
-const CAPACITY_MOST: u128 = 4096;
+use module_record::MOST_CAPACITY;
 
 // A kind of line.
 #[derive(Clone, Copy)]
@@ -51,7 +49,7 @@ pub(crate) fn capacity_in(word: &[u8]) -> Option<u32>
     ensures exact { Exactly (IsCapacity word.now) result }
 {
     let number = number_in(word)?;
-    if number < 1 || number > CAPACITY_MOST {
+    if number < 1 || number > u128::from(MOST_CAPACITY) {
         return None;
     }
     Some(number as u32)

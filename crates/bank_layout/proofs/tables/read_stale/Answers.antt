@@ -20,11 +20,11 @@ returns-in_default-clause-none c = λ stale reads.
     (some_left c.loop-items.items c.at_end.result c.at_end.ensures.end c.loop-items-test.true)
     c.loop-items.invariant.stale.read c.in_default.ensures.exact) ∙ reads.read)
 
-pub returns-then-stale_entries-ge-MOST_STALE-clause-none : goal.returns-then-stale_entries-ge-MOST_STALE-clause-none
-returns-then-stale_entries-ge-MOST_STALE-clause-none c =
+pub returns-then-stale_entries-ge-MOST_STALE_ENTRIES-clause-none : goal.returns-then-stale_entries-ge-MOST_STALE_ENTRIES-clause-none
+returns-then-stale_entries-ge-MOST_STALE_ENTRIES-clause-none c =
     too_many_stale c.args.contents.now c.loop-items.items c.read_stale_entry.new.items c.loop-items.tables
     c.in-Some.entry c.loop-items.invariant.stale c.in-Some.ensures.exact
-    (omega (arith, c.if-stale_entries-ge-MOST_STALE.true, c.stale_entries.ensures.count))
+    (omega (arith, c.if-stale_entries-ge-MOST_STALE_ENTRIES.true, c.stale_entries.ensures.count))
 
 pub returns-then-is_some-clause-none : goal.returns-then-is_some-clause-none
 returns-then-is_some-clause-none c =
@@ -40,7 +40,7 @@ loop-items-preserved c = record {
   stale = stale_more c.args.contents.now c.loop-items.items c.read_stale_entry.new.items c.loop-items.tables
       c.in-Some.entry c.loop-items.invariant.stale c.in-Some.ensures.exact c.take_stale.new.self c.last.result
       c.last.ensures.last c.is_some.result (c.is_some.ensures ∙ ap is_some c.stale_of.ensures.number) c.if-is_some.false
-      (omega (arith, c.if-stale_entries-ge-MOST_STALE.false, c.stale_entries.ensures.count))
+      (omega (arith, c.if-stale_entries-ge-MOST_STALE_ENTRIES.false, c.stale_entries.ensures.count))
       c.in_ok-take_stale.ensures.ok;
   packages = ap (λ (s : State Stored). s.packages) c.in_ok-take_stale.ensures.ok ∙ c.loop-items.invariant.packages;
 }

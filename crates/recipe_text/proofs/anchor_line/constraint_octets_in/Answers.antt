@@ -16,8 +16,8 @@ returns-in_default c = record {
       (rw c.in_default.is at c.in_ok-octets.ensures.exact);
 }
 
-pub returns-then-len-gt-CONSTRAINTS_MOST : goal.returns-then-len-gt-CONSTRAINTS_MOST
-returns-then-len-gt-CONSTRAINTS_MOST c = record {
+pub returns-then-len-gt-MOST_CONSTRAINTS : goal.returns-then-len-gt-MOST_CONSTRAINTS
+returns-then-len-gt-MOST_CONSTRAINTS c = record {
   exact = short_long c.args.word.now
       (isnt_word c.args.word.now (codes "-") c.is_word.result c.is_word.ensures c.if-is_word.false)
       c.in-Some.octets.items (rw c.in-Some.is at c.in_ok-octets.ensures.exact) (grind arith);
