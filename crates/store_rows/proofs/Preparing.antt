@@ -12,13 +12,10 @@ use Rattle.package_attrs.specs.declared.name.PackageName.{PackageName}
 use Rattle.package_attrs.specs.declared.name.Stale.{Stale}
 use Rattle.package_attrs.specs.Description.{Description}
 use Rattle.package_attrs.specs.Identifier.{IsName}
-use Rattle.module_record.specs.declared.module.Module.{Module}
 use Rattle.config_table.specs.State.{State, last_stale, made_stale, offer_of, with_package}
 use Rattle.config_table.specs.Stored.{Stored}
-use Rattle.bank_layout.specs.declared.bank.Bank.{Bank}
-use Rattle.bank_layout.specs.Manifest.{Manifest, named_blocks}
-use Rattle.bank_layout.specs.Recovery.{HoldsModule}
-use Rattle.module_store.specs.Store.{CanPrepare, IsQuiet, IsStore, IsStoreOf, manifest_of}
+use Rattle.bank_layout.specs.Manifest.{named_blocks}
+use Rattle.module_store.specs.Store.{CanPrepare, IsQuiet, IsStore}
 use Rattle.module_store.specs.declared.store.Store.{Store}
 use Rattle.store_rows.specs.Plain.{IsPlain}
 
@@ -77,12 +74,3 @@ module _ (s : Store) (d : Description) (plain : IsPlain d) (digest : List ℕ) (
       live : LiveExactly pool (named_blocks s.state ++ numbers)
       live = subst (λ (p : List Bool). LiveExactly p (named_blocks s.state ++ numbers)) (sym pool_is)
           (law s.pool (named_blocks s.state) numbers quiet free)
-
--- a store that says the same is the board's too
-pub still_holds : (s t : Store) (a b : List ℕ) → t.module ≡ s.module → t.running ≡ s.running
-    → manifest_of t ≡ manifest_of s → b ≡ a → IsStoreOf s a → IsStoreOf t b
-still_holds s t a b owner running says same holds =
-    subst (λ (l : List ℕ). HoldsModule l t.module t.running (manifest_of t)) (sym same)
-    (subst (λ (m : Module). HoldsModule a m t.running (manifest_of t)) (sym owner)
-    (subst (λ (r : Option Bank). HoldsModule a s.module r (manifest_of t)) (sym running)
-    (subst (λ (m : Manifest). HoldsModule a s.module s.running m) (sym says) holds)))

@@ -12,14 +12,17 @@ const MODULE: [u8; 20] = [
 ];
 
 // Behind the capacity: the anchor, whose name is root, with the key identifier A1 and the key of one
-// level of H5 and W4, up to I and T[1].
-const ANCHOR: [u8; 38] = [
-    0x30, 0x54, 0x30, 0x52, 0x30, 0x0f, 0x31, 0x0d, 0x30, 0x0b, 0x06, 0x03, 0x55, 0x04, 0x03, 0x0c,
-    0x04, 0x72, 0x6f, 0x6f, 0x74, 0x04, 0x01, 0xa1, 0x04, 0x3c, 0, 0, 0, 1, 0, 0, 0, 5, 0, 0, 0, 3,
-];
-
-// The module's key of H5 and W4, up to SEED.
-const KEY: [u8; 10] = [0x30, 0x3a, 0x02, 0x01, 0x05, 0x02, 0x01, 0x03, 0x04, 0x20];
+// level of H5 and W4, whose T[1] is of octets 07; then the module's key of H5 and W4, whose SEED and I
+// are of octets 01.
+const BEHIND: [u8; 146] = *b"\x30\x54\x30\x52\x30\x0f\x31\x0d\x30\x0b\x06\x03\x55\x04\x03\x0c\
+    \x04root\x04\x01\xa1\x04\x3c\0\0\0\x01\0\0\0\x05\0\0\0\x03\
+    \x07\x07\x07\x07\x07\x07\x07\x07\x07\x07\x07\x07\x07\x07\x07\x07\
+    \x07\x07\x07\x07\x07\x07\x07\x07\x07\x07\x07\x07\x07\x07\x07\x07\
+    \x07\x07\x07\x07\x07\x07\x07\x07\x07\x07\x07\x07\x07\x07\x07\x07\
+    \x30\x3a\x02\x01\x05\x02\x01\x03\x04\x20\
+    \x01\x01\x01\x01\x01\x01\x01\x01\x01\x01\x01\x01\x01\x01\x01\x01\
+    \x01\x01\x01\x01\x01\x01\x01\x01\x01\x01\x01\x01\x01\x01\x01\x01\
+    \x04\x10\x01\x01\x01\x01\x01\x01\x01\x01\x01\x01\x01\x01\x01\x01\x01\x01";
 
 // The manifest of 1.2.3.1 version 7 with sequence number 1, whose image of 5 octets stands in block 0.
 const SHORT_MANIFEST: [u8; 67] =
@@ -81,12 +84,7 @@ fn put_record<B: Board>(board: &mut B, capacity: u8) -> Result<(), Failed>
     board.program(0, &[0x0f])?;
     board.program(4096, &MODULE)?;
     board.program(4116, &[capacity])?;
-    board.program(4117, &ANCHOR)?;
-    board.program(4155, &[7; 48])?;
-    board.program(4203, &KEY)?;
-    board.program(4213, &[1; 32])?;
-    board.program(4245, &[0x04, 0x10])?;
-    board.program(4247, &[1; 16])
+    board.program(4117, &BEHIND)
 }
 
 fn put_bank<B: Board>(board: &mut B, gate: u32, part: Part<'_>) -> Result<(), Failed>
@@ -102,19 +100,19 @@ fn put_bank<B: Board>(board: &mut B, gate: u32, part: Part<'_>) -> Result<(), Fa
 }
 
 // How many calls put a board.
-pub(crate) const PUT: u64 = 15;
+pub(crate) const PUT: u64 = 10;
 
 // The banks' parts, and what stands from image block 0 on.
 fn put_module<B: Board>(
     board: &mut B,
     capacity: u8,
-    zero: Part<'_>,
-    one: Part<'_>,
+    parts: [Part<'_>; 2],
     image: &[u8],
 ) -> Result<(), Failed>
     requires blocks { 84 ≤ (B.view board.old).blocks }
 {
     put_record(board, capacity)?;
+    let [zero, one] = parts;
     put_bank(board, 18, zero)?;
     put_bank(board, 51, one)?;
     if board.blocks() < 86 || image.len() > 8192 {
@@ -122,6 +120,14 @@ fn put_module<B: Board>(
     }
     board.program(4096 * 84, image)?;
     board.sync()
+}
+
+// The list of this number, where there is one, and else of none.
+fn list_of(alloc: Global, number: Option<u64>) -> Result<Vec<u64>, AllocError> {
+    match number {
+        Some(number) => vec![in alloc; number; 1],
+        None => Ok(Vec::new(alloc)),
+    }
 }
 
 // The board of a module of this capacity with these banks and this image, which fails at the call of
@@ -136,14 +142,13 @@ pub(crate) fn stopping_board(
     calls: u64,
 ) -> Option<MemBoard> {
     let blocks = 84 + 2 * u32::from(capacity);
-    let mut numbers = Vec::new(alloc);
-    if let Some(number) = failing {
-        numbers.push(number).ok()?;
+    let failing = list_of(alloc, failing).ok()?;
+    let mut board = MemBoard::new(alloc, blocks, failing, calls, 20_000).ok()?;
+    if put_module(&mut board, capacity, parts, image).is_ok() {
+        Some(board)
+    } else {
+        None
     }
-    let mut board = MemBoard::new(alloc, blocks, numbers, calls, 20_000).ok()?;
-    let [zero, one] = parts;
-    put_module(&mut board, capacity, zero, one, image).ok()?;
-    Some(board)
 }
 
 // The same without an image, on which nothing fails.

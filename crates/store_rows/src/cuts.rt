@@ -1,11 +1,10 @@
 // What the cells recover to where an install is stopped at one of its calls, or where one fails.
-use crate::board::{EMPTY, PUT, Part, long_manifest, manifest, open_over, stopping_board};
+use crate::board::{EMPTY, PUT, long_manifest, manifest, open_over, stopping_board};
 use crate::run::install_image;
 use bank_layout::{Bank, FIRST_IMAGE_BLOCK};
 use edge_board::{BLOCK, Board, MemBoard, Pick};
-use module_store::open;
+use module_store::{Store, open};
 use std::alloc::Global;
-use std::test::Fail;
 
 const PICKS: [Pick; 4] = [Pick::Keep, Pick::Before, Pick::Fill(0x0f), Pick::Fill(0)];
 
@@ -46,9 +45,8 @@ fn is_image(board: &mut MemBoard, blocks: &[u16], size: usize, octet: u8) -> boo
     left == 0
 }
 
-// What the board recovers to, where its image has the octet of its sequence number.
-fn found(alloc: Global, board: &mut MemBoard) -> Option<Found> {
-    let store = open(alloc, board).ok()?;
+// What the board's store says, where its image has the octet of its sequence number.
+fn found_in(store: &Store, board: &mut MemBoard) -> Option<Found> {
     let octet = u8::try_from(store.sequence).ok()?;
     if store.state.packages() == 0 {
         return Some((store.sequence, 0, 0));
@@ -62,10 +60,26 @@ fn found(alloc: Global, board: &mut MemBoard) -> Option<Found> {
     }
 }
 
+// What the board recovers to.
+fn found(alloc: Global, board: &mut MemBoard) -> Option<Found> {
+    match open(alloc, board) {
+        Ok(store) => found_in(&store, board),
+        Err(_) => None,
+    }
+}
+
+// The same after a power cut.
+fn found_after(alloc: Global, board: MemBoard, pick: Pick) -> Option<Found> {
+    match board.stopped(alloc, pick, 20, 0) {
+        Ok(mut board) => found(alloc, &mut board),
+        Err(_) => None,
+    }
+}
+
 // Installs 1.2.3.1 version 7 with an image of so many octets, each of which is this one.
 fn install_filled(alloc: Global, board: &mut MemBoard, octet: u8, size: usize) -> bool {
     match vec![in alloc; octet; size] {
-        Ok(image) => size < 8192 && install_image(alloc, board, 1, 7, &image).is_ok(),
+        Ok(image) => size < 8192 && install_image(alloc, board, 1, 7, &image).is_some(),
         Err(_) => false,
     }
 }
@@ -78,32 +92,28 @@ fn with_banks(
     failing: Option<u64>,
     calls: u64,
 ) -> Option<MemBoard> {
-    let short = manifest(2, 1, 0);
-    let long = long_manifest(1);
-    let part: Part<'_> = if size == LONG {
+    let (short, long) = (manifest(2, 1, 0), long_manifest(1));
+    let part = if size == LONG {
         open_over(&long)
     } else {
         open_over(&short)
     };
+    let parts = match bank {
+        None => [EMPTY, EMPTY],
+        Some(Bank::Zero) => [part, EMPTY],
+        Some(Bank::One) => [EMPTY, part],
+    };
     let image = [1; LONG];
-    match bank {
-        None => stopping_board(alloc, 4, [EMPTY, EMPTY], b"", failing, calls),
-        Some(Bank::Zero) => stopping_board(
-            alloc,
-            4,
-            [part, EMPTY],
-            &image[..size.min(LONG)],
-            failing,
-            calls,
-        ),
-        Some(Bank::One) => stopping_board(
-            alloc,
-            4,
-            [EMPTY, part],
-            &image[..size.min(LONG)],
-            failing,
-            calls,
-        ),
+    stopping_board(alloc, 4, parts, &image[..size.min(LONG)], failing, calls)
+}
+
+// Whether an install answered Ok. None where the cells don't recover to what it installs, nor, without
+// Ok, to what was there.
+fn is_lawful(done: bool, after: Option<Found>, before: Found, next: Found) -> Option<bool> {
+    if after == Some(next) || !done && after == Some(before) {
+        Some(done)
+    } else {
+        None
     }
 }
 
@@ -117,64 +127,69 @@ fn stops(
     calls: u64,
     pick: Pick,
 ) -> Option<bool> {
-    let before = if bank.is_none() { NOTHING } else { (1, old, 1) };
-    let next = if bank.is_none() { 1 } else { 2 };
-    let mut board = with_banks(alloc, bank, old, None, PUT.saturating_add(calls))?;
-    let done = install_filled(alloc, &mut board, next, new);
-    let mut board = board.stopped(alloc, pick, 20, 0).ok()?;
-    let after = found(alloc, &mut board)?;
-    if after == (u64::from(next), new, next) || !done && after == before {
-        Some(done)
+    let (before, next) = if bank.is_none() {
+        (NOTHING, 1)
     } else {
-        None
+        ((1, old, 1), 2)
+    };
+    match with_banks(alloc, bank, old, None, PUT.saturating_add(calls)) {
+        Some(mut board) => {
+            let done = install_filled(alloc, &mut board, next, new);
+            let after = found_after(alloc, board, pick);
+            is_lawful(done, after, before, (u64::from(next), new, next))
+        }
+        None => None,
     }
 }
 
-// The same behind each number of calls, with each pick: whether the last answers Ok.
-fn stops_anywhere(alloc: Global, bank: Option<Bank>, old: usize, new: usize) -> Option<bool> {
+// Whether that is so behind each number of calls, with each pick, and the last answers Ok.
+fn stops_anywhere(alloc: Global, bank: Option<Bank>, old: usize, new: usize) -> bool {
     let mut done = false;
     for calls in 0..=MOST_CALLS {
         for pick in PICKS {
-            done = stops(alloc, bank, old, new, calls, pick)?;
+            match stops(alloc, bank, old, new, calls, pick) {
+                Some(last) => done = last,
+                None => return false,
+            }
         }
     }
-    Some(done)
+    done
 }
 
 // Nothing was installed before, or bank 0 or bank 1 runs; the new image is as long as the one that it
 // replaces, longer or shorter.
-#[test]
-fn a_stopped_install_leaves_old_or_new(rt: HostRuntime) -> Result<(), Fail> {
-    let alloc = rt.alloc();
-    let [zero, one] = [Some(Bank::Zero), Some(Bank::One)];
-    assert_eq!(rt; stops_anywhere(alloc, None, 0, LONG), Some(true));
-    assert_eq!(rt; stops_anywhere(alloc, zero, LONG, LONG), Some(true));
-    assert_eq!(rt; stops_anywhere(alloc, zero, SHORT, LONG), Some(true));
-    assert_eq!(rt; stops_anywhere(alloc, zero, LONG, SHORT), Some(true));
-    assert_eq!(rt; stops_anywhere(alloc, one, LONG, LONG), Some(true));
-    assert_eq!(rt; stops_anywhere(alloc, one, SHORT, LONG), Some(true));
-    assert_eq!(rt; stops_anywhere(alloc, one, LONG, SHORT), Some(true));
-    Ok(())
+fn each_stops_anywhere(alloc: Global) -> bool {
+    let (zero, one) = (Some(Bank::Zero), Some(Bank::One));
+    stops_anywhere(alloc, None, 0, LONG)
+        && stops_anywhere(alloc, zero, LONG, LONG)
+        && stops_anywhere(alloc, zero, SHORT, LONG)
+        && stops_anywhere(alloc, zero, LONG, SHORT)
+        && stops_anywhere(alloc, one, LONG, LONG)
+        && stops_anywhere(alloc, one, SHORT, LONG)
+        && stops_anywhere(alloc, one, LONG, SHORT)
 }
 
-// Whether two installs on a module without packages answer Ok. None where the cells don't recover to
-// what the last one that was begun installs, nor, without its Ok, to what was there before it.
-fn installs_two(alloc: Global, board: MemBoard, pick: Pick) -> Option<bool> {
-    let mut board = board;
-    let first = install_filled(alloc, &mut board, 1, LONG);
-    let second = first && install_filled(alloc, &mut board, 2, SHORT);
-    let mut board = board.stopped(alloc, pick, 20, 0).ok()?;
-    let after = found(alloc, &mut board)?;
-    let one = (1, LONG, 1);
-    let (old, new) = if first {
-        (one, (2, SHORT, 2))
-    } else {
-        (NOTHING, one)
-    };
-    if after == new || !second && after == old {
-        Some(second)
-    } else {
-        None
+#[test]
+fn a_stopped_install_leaves_old_or_new(rt: HostRuntime) {
+    assert!(rt; each_stops_anywhere(rt.alloc()));
+}
+
+// Whether two installs on a module without packages answer Ok, where they are stopped behind so many
+// calls, or one call fails. None where the cells don't recover to what the last one that was begun
+// installs, nor, without its Ok, to what was there before it.
+fn installs_two(alloc: Global, failing: Option<u64>, calls: u64, pick: Pick) -> Option<bool> {
+    match with_banks(alloc, None, 0, failing, calls) {
+        Some(mut board) => {
+            let first = install_filled(alloc, &mut board, 1, LONG);
+            let second = first && install_filled(alloc, &mut board, 2, SHORT);
+            let after = found_after(alloc, board, pick);
+            if first {
+                is_lawful(second, after, (1, LONG, 1), (2, SHORT, 2))
+            } else {
+                is_lawful(false, after, NOTHING, (1, LONG, 1))
+            }
+        }
+        None => None,
     }
 }
 
@@ -182,22 +197,26 @@ fn installs_two(alloc: Global, board: MemBoard, pick: Pick) -> Option<bool> {
 // fails: whether all four answer Ok.
 fn two_are_lawful(alloc: Global, calls: u64, pick: Pick) -> Option<bool> {
     let number = PUT.saturating_add(calls);
-    let stopping = with_banks(alloc, None, 0, None, number)?;
-    let failing = with_banks(alloc, None, 0, Some(number), 1_000)?;
-    let stopped = installs_two(alloc, stopping, pick)?;
-    let failed = installs_two(alloc, failing, pick)?;
+    let stopped = installs_two(alloc, None, number, pick)?;
+    let failed = installs_two(alloc, Some(number), 1_000, pick)?;
     Some(stopped && failed)
 }
 
-#[test]
-fn two_installs_leave_one_or_the_other(rt: HostRuntime) -> Result<(), Fail> {
-    let mut done = None;
+// Whether that is so behind each number of calls, with each pick, and all four of the last answer Ok.
+fn two_are_lawful_anywhere(alloc: Global) -> bool {
+    let mut done = false;
     for calls in 0..=2 * MOST_CALLS {
         for pick in PICKS {
-            done = two_are_lawful(rt.alloc(), calls, pick);
-            assert!(rt; done.is_some(), "behind {calls} calls");
+            match two_are_lawful(alloc, calls, pick) {
+                Some(last) => done = last,
+                None => return false,
+            }
         }
     }
-    assert_eq!(rt; done, Some(true));
-    Ok(())
+    done
+}
+
+#[test]
+fn two_installs_leave_one_or_the_other(rt: HostRuntime) {
+    assert!(rt; two_are_lawful_anywhere(rt.alloc()));
 }

@@ -6,10 +6,10 @@ use Rattle.content_stream.proofs.PlanLemmas.{planned_lies}
 use Rattle.store_rows.proofs.run.stream_image.Goals as goal
 
 pub feed-requires-clause-lies : goal.feed-requires-clause-lies
-feed-requires-clause-lies c = planned_lies 84 _ _ _ _ _ c.in_ok-stream.ensures.plan _ c.requires.lies
+feed-requires-clause-lies c = planned_lies 84 _ _ _ _ _ c.in-Ok.ensures.plan _ c.requires.lies
 
 pub finish-requires-clause-lies : goal.finish-requires-clause-lies
 finish-requires-clause-lies c =
     subst (λ (p : Plan). LiesBelow (mem_view c.feed.new.board).blocks p) (sym c.feed.ensures.plan)
-    (subst (λ (n : ℕ). LiesBelow n (plan_of c.in_ok-stream.stream)) (sym c.feed.ensures.touches.blocks)
-    (planned_lies 84 _ _ _ _ _ c.in_ok-stream.ensures.plan _ c.requires.lies))
+    (subst (λ (n : ℕ). LiesBelow n (plan_of c.in-Ok.stream)) (sym c.feed.ensures.touches.blocks)
+    (planned_lies 84 _ _ _ _ _ c.in-Ok.ensures.plan _ c.requires.lies))
