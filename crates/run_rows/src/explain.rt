@@ -1,10 +1,8 @@
 // Rows of `explain`, over a module's board in memory, and packages that were signed before.
-use crate::row::{ends, words_of};
-use edge_board::{MemBoard, MemSource, Pick};
-use fwload_top::{Status, run};
+use crate::row::{ends, says, source_of, status_of};
+use edge_board::{MemBoard, Pick};
+use fwload_top::Status;
 use std::alloc::{AllocError, Global};
-use std::process::Abort;
-use std::test::Fail;
 
 // A module that trusts its own public key, whose SEED and I are of octets 01.
 const MODULE: &str = "hwtype 1.2.3\nserial 0001\ncapacity 16\n\
@@ -44,133 +42,171 @@ const BEHIND: &str = "deny other\n";
 
 const AT: &str = "f explain 20300101000000";
 
-// What the words send over a text.
-fn sent(
-    rt: &impl Abort,
-    alloc: Global,
-    words: &str,
-    text: &str,
-    board: &mut MemBoard,
-) -> Result<Vec<u8>, AllocError> {
+// What the words send over a text, where they end with Done. None where they don't.
+fn sent(alloc: Global, words: &str, text: &str, board: &mut MemBoard) -> Option<Vec<u8>> {
     let before = board.sent_octets().len();
-    let words = words_of(alloc, words)?;
-    let mut source = MemSource::new(text.as_bytes().to_vec(alloc)?, Vec::new(alloc));
-    let status = run(alloc, &words, &mut source, board);
-    assert_eq!(rt; status, Status::Done);
-    let mut octets = Vec::new(alloc);
-    for octet in board.sent_octets().iter().skip(before) {
-        octets.push(*octet)?;
+    let status = match source_of(alloc, text.as_bytes(), &[]) {
+        Ok(mut source) => status_of(alloc, words, &mut source, board),
+        Err(_) => None,
+    };
+    if status != Some(Status::Done) {
+        return None;
     }
-    Ok(octets)
+    board.sent_octets().get(before..)?.to_vec(alloc).ok()
 }
 
-// The line of a certificate in the recipe of a package.
+// Appends the line of a certificate in the recipe of a package.
 fn push_certificate(alloc: Global, recipe: &mut String, octets: &[u8]) -> Result<(), AllocError> {
     recipe.push_str("certificate ")?;
-    recipe.push_str(&hex::encode(alloc, octets)?)?;
+    match hex::encode(alloc, octets) {
+        Ok(digits) => recipe.push_str(&digits)?,
+        Err(fault) => return Err(fault),
+    }
     recipe.push_str("\n")
 }
 
-// The certificate by these lines and what it may sign.
-fn certificate(
-    rt: &impl Abort,
+// The same of the certificate that a board issues by these lines and what it may sign.
+fn push_issued(
     alloc: Global,
+    recipe: &mut String,
     lines: &str,
     constraint: &str,
     board: &mut MemBoard,
-) -> Result<Vec<u8>, AllocError> {
-    let recipe = [lines, constraint].concat(alloc)?;
-    sent(rt, alloc, "f issue", &recipe, board)
+) -> bool {
+    let issued = match [lines, constraint].concat(alloc) {
+        Ok(text) => sent(alloc, "f issue", &text, board),
+        Err(_) => None,
+    };
+    match issued {
+        Some(octets) => push_certificate(alloc, recipe, &octets).is_ok(),
+        None => false,
+    }
 }
 
-// A package of these lines, signed by the signer, with its path.
-fn package(
-    rt: &impl Abort,
+// Writes the recipe of a package of these lines, signed by the signer, with its path.
+fn put_recipe(
     alloc: Global,
+    recipe: &mut String,
     grants: &Grants,
     lines: &str,
-) -> Result<Vec<u8>, AllocError> {
-    let mut board = MemBoard::new(alloc, 18, Vec::new(alloc), 1000, 40_000)?;
-    sent(rt, alloc, "f key-new", KEY, &mut board)?;
-    let authority = certificate(rt, alloc, AUTHORITY, grants.authority, &mut board)?;
-    let signer = certificate(rt, alloc, SIGNER, grants.signer, &mut board)?;
-    let mut recipe = String::from_str(alloc, lines)?;
-    recipe.push_str("signer b1\nimage 68656c6c6f\n")?;
-    push_certificate(alloc, &mut recipe, &signer)?;
-    push_certificate(alloc, &mut recipe, &authority)?;
-    sent(rt, alloc, "f pack", &recipe, &mut board)
+    board: &mut MemBoard,
+) -> bool {
+    recipe.push_str(lines).is_ok()
+        && recipe.push_str("signer b1\nimage 68656c6c6f\n").is_ok()
+        && push_issued(alloc, recipe, SIGNER, grants.signer, board)
+        && push_issued(alloc, recipe, AUTHORITY, grants.authority, board)
+}
+
+// The package, on a board where a key is made first.
+fn packed(alloc: Global, grants: &Grants, lines: &str, board: &mut MemBoard) -> Option<Vec<u8>> {
+    let made = sent(alloc, "f key-new", KEY, board).is_some();
+    let mut recipe = String::new(alloc);
+    if made && put_recipe(alloc, &mut recipe, grants, lines, board) {
+        sent(alloc, "f pack", &recipe, board)
+    } else {
+        None
+    }
+}
+
+fn package(alloc: Global, grants: &Grants, lines: &str) -> Option<Vec<u8>> {
+    match MemBoard::new(alloc, 18, Vec::new(alloc), 1000, 40_000) {
+        Ok(mut board) => packed(alloc, grants, lines, &mut board),
+        Err(_) => None,
+    }
+}
+
+// The module's board after a restart.
+fn module(alloc: Global) -> Option<MemBoard> {
+    let made = match MemBoard::new(alloc, 116, Vec::new(alloc), 1000, 10_000) {
+        Ok(mut board) => {
+            let done = sent(alloc, "f make", MODULE, &mut board).is_some();
+            if done { Some(board) } else { None }
+        }
+        Err(_) => None,
+    };
+    made?.stopped(alloc, Pick::Keep, 1000, 10_000).ok()
 }
 
 // What the module says of an input.
-fn says(
-    rt: &impl Abort,
+fn explained(alloc: Global, input: &[u8], wanted: Status, answer: &str) -> bool {
+    match module(alloc) {
+        Some(mut board) => says(alloc, AT, input, &mut board, wanted, answer),
+        None => false,
+    }
+}
+
+fn put_answer(out: &mut String, grants: &Grants, verdict: &str) -> Result<(), AllocError> {
+    out.push_str(FRONT)?;
+    out.push_str(grants.attributes)?;
+    out.push_str(BEHIND)?;
+    out.push_str(verdict)
+}
+
+fn explained_of(
     alloc: Global,
-    input: Vec<u8>,
+    grants: &Grants,
+    input: &[u8],
     wanted: Status,
-    answer: &str,
-) -> Result<(), AllocError> {
-    let mut board = MemBoard::new(alloc, 116, Vec::new(alloc), 1000, 10_000)?;
-    sent(rt, alloc, "f make", MODULE, &mut board)?;
-    let mut board = board.stopped(alloc, Pick::Keep, 1000, 10_000)?;
-    let mut source = MemSource::new(input, Vec::new(alloc));
-    ends(rt, alloc, AT, &mut source, &mut board, wanted, answer)
+    verdict: &str,
+) -> bool {
+    let mut answer = String::new(alloc);
+    put_answer(&mut answer, grants, verdict).is_ok() && explained(alloc, input, wanted, &answer)
 }
 
 // The same of a package by these lines, whose path of two grants what it does.
-fn explains(
-    rt: &impl Abort,
-    alloc: Global,
-    grants: &Grants,
-    lines: &str,
-    wanted: Status,
-    verdict: &str,
-) -> Result<(), AllocError> {
-    let input = package(rt, alloc, grants, lines)?;
-    let mut answer = String::from_str(alloc, FRONT)?;
-    answer.push_str(grants.attributes)?;
-    answer.push_str(BEHIND)?;
-    answer.push_str(verdict)?;
-    says(rt, alloc, input, wanted, &answer)
+fn explains(alloc: Global, grants: &Grants, lines: &str, wanted: Status, verdict: &str) -> bool {
+    match package(alloc, grants, lines) {
+        Some(input) => explained_of(alloc, grants, &input, wanted, verdict),
+        None => false,
+    }
 }
 
 // The package is permitted.
-pub(crate) fn permits(
-    rt: &impl Abort,
-    alloc: Global,
-    grants: &Grants,
-    lines: &str,
-) -> Result<(), AllocError> {
-    explains(rt, alloc, grants, lines, Status::Done, "verdict accepted\n")
+pub(crate) fn permits(alloc: Global, grants: &Grants, lines: &str) -> bool {
+    explains(alloc, grants, lines, Status::Done, "verdict accepted\n")
 }
 
 // It isn't, though its path permits others.
-pub(crate) fn refuses(
-    rt: &impl Abort,
-    alloc: Global,
-    grants: &Grants,
-    lines: &str,
-) -> Result<(), AllocError> {
-    let verdict = "verdict refused 28 11\n";
-    explains(rt, alloc, grants, lines, Status::SomeRefused, verdict)
+pub(crate) fn refuses(alloc: Global, grants: &Grants, lines: &str) -> bool {
+    explains(
+        alloc,
+        grants,
+        lines,
+        Status::SomeRefused,
+        "verdict refused 28 11\n",
+    )
+}
+
+// On an erased board, over a source that fails at its first read.
+fn is_no_module(alloc: Global, board: &mut MemBoard) -> bool {
+    match source_of(alloc, b"", &[0]) {
+        Ok(mut source) => ends(alloc, AT, &mut source, board, Status::NotAModule, ""),
+        Err(_) => false,
+    }
+}
+
+fn no_module_explains(alloc: Global) -> bool {
+    match MemBoard::new(alloc, 116, Vec::new(alloc), 1000, 10_000) {
+        Ok(mut board) => is_no_module(alloc, &mut board),
+        Err(_) => false,
+    }
 }
 
 // No path is told of what is no package, and no verdict where there is no module.
-#[test]
-fn what_is_no_package_has_no_path(rt: HostRuntime) -> Result<(), Fail> {
-    let a = rt.alloc();
+fn no_path_is_told(alloc: Global) -> bool {
     let refused = "verdict refused 1 1\n";
-    says(&rt, a, Vec::new(a), Status::SomeRefused, refused)?;
-    says(
-        &rt,
-        a,
-        b"\x30\x00\x00".to_vec(a)?,
-        Status::SomeRefused,
-        refused,
-    )?;
-    let empty = b"\x30\x00".to_vec(a)?;
-    says(&rt, a, empty, Status::SomeRefused, "verdict refused 3 2\n")?;
-    let mut board = MemBoard::new(a, 116, Vec::new(a), 1000, 10_000)?;
-    let mut source = MemSource::new(Vec::new(a), [0].to_vec(a)?);
-    ends(&rt, a, AT, &mut source, &mut board, Status::NotAModule, "")?;
-    Ok(())
+    explained(alloc, b"", Status::SomeRefused, refused)
+        && explained(alloc, b"\x30\x00\x00", Status::SomeRefused, refused)
+        && explained(
+            alloc,
+            b"\x30\x00",
+            Status::SomeRefused,
+            "verdict refused 3 2\n",
+        )
+        && no_module_explains(alloc)
+}
+
+#[test]
+fn what_is_no_package_has_no_path(rt: HostRuntime) {
+    assert!(rt; no_path_is_told(rt.alloc()));
 }

@@ -57,7 +57,7 @@ pub(crate) const fn needing(id: u8, version: u8, needed: u8, least: u8) -> Offer
 }
 
 // Appends the package's attribute set.
-pub(crate) fn put_set(out: &mut Vec<u8>, package: Offered) -> Result<(), AllocError> {
+fn put_set(out: &mut Vec<u8>, package: Offered) -> Result<(), AllocError> {
     let more = if package.stale.is_some() { 3 } else { 0 };
     let info = if package.need.is_some() { 31 } else { 0 };
     out.extend_from_slice(&[0x31, 0x81, 129 + more + info])?;

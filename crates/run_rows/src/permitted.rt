@@ -1,6 +1,5 @@
 // Rows of `explain` over what a path permits (RFC 6010, section 4; RFC 4108, section 3.2).
 use crate::explain::{Grants, permits, refuses};
-use std::test::Fail;
 
 // Any content may be signed.
 const ANY: &str = "constraint 300f300d060b2a864886f70d0109100100\n";
@@ -18,50 +17,26 @@ const ONE_LIST: Grants = Grants {
 };
 
 #[test]
-fn a_listed_version_is_permitted(rt: HostRuntime) -> Result<(), Fail> {
-    permits(
-        &rt,
-        rt.alloc(),
-        &ONE_LIST,
-        "package 1.2.3.1 7\ntarget 1.2.3\n",
-    )?;
-    Ok(())
+fn a_listed_version_is_permitted(rt: HostRuntime) {
+    assert!(rt; permits(rt.alloc(), &ONE_LIST, "package 1.2.3.1 7\ntarget 1.2.3\n"));
 }
 
 #[test]
-fn another_name_is_refused(rt: HostRuntime) -> Result<(), Fail> {
-    refuses(
-        &rt,
-        rt.alloc(),
-        &ONE_LIST,
-        "package 1.2.3.2 7\ntarget 1.2.3\n",
-    )?;
-    refuses(
-        &rt,
-        rt.alloc(),
-        &ONE_LIST,
-        "package 1.2.3.2 9\ntarget 1.2.3\n",
-    )?;
-    Ok(())
+fn another_name_is_refused(rt: HostRuntime) {
+    assert!(rt; refuses(rt.alloc(), &ONE_LIST, "package 1.2.3.2 7\ntarget 1.2.3\n"));
+    assert!(rt; refuses(rt.alloc(), &ONE_LIST, "package 1.2.3.2 9\ntarget 1.2.3\n"));
 }
 
 // Whatever is stale by it.
 #[test]
-fn a_greater_version_is_permitted(rt: HostRuntime) -> Result<(), Fail> {
+fn a_greater_version_is_permitted(rt: HostRuntime) {
     let lines = "package 1.2.3.1 8\nstale 2\ntarget 1.2.3\n";
-    permits(&rt, rt.alloc(), &ONE_LIST, lines)?;
-    Ok(())
+    assert!(rt; permits(rt.alloc(), &ONE_LIST, lines));
 }
 
 #[test]
-fn a_smaller_version_is_refused(rt: HostRuntime) -> Result<(), Fail> {
-    refuses(
-        &rt,
-        rt.alloc(),
-        &ONE_LIST,
-        "package 1.2.3.1 6\ntarget 1.2.3\n",
-    )?;
-    Ok(())
+fn a_smaller_version_is_refused(rt: HostRuntime) {
+    assert!(rt; refuses(rt.alloc(), &ONE_LIST, "package 1.2.3.1 6\ntarget 1.2.3\n"));
 }
 
 // The signer lists that name from version 9 on. Of the two listed values both cover this alone.
@@ -73,20 +48,9 @@ const TWO_LISTS: Grants = Grants {
 };
 
 #[test]
-fn each_member_permits(rt: HostRuntime) -> Result<(), Fail> {
-    refuses(
-        &rt,
-        rt.alloc(),
-        &TWO_LISTS,
-        "package 1.2.3.1 8\ntarget 1.2.3\n",
-    )?;
-    permits(
-        &rt,
-        rt.alloc(),
-        &TWO_LISTS,
-        "package 1.2.3.1 9\ntarget 1.2.3\n",
-    )?;
-    Ok(())
+fn each_member_permits(rt: HostRuntime) {
+    assert!(rt; refuses(rt.alloc(), &TWO_LISTS, "package 1.2.3.1 8\ntarget 1.2.3\n"));
+    assert!(rt; permits(rt.alloc(), &TWO_LISTS, "package 1.2.3.1 9\ntarget 1.2.3\n"));
 }
 
 // The authority lists the hardware types 1.2.3 and 1.2.4 in one value.
@@ -98,21 +62,14 @@ const TOGETHER: Grants = Grants {
 };
 
 #[test]
-fn some_of_the_listed_hardware_is_permitted(rt: HostRuntime) -> Result<(), Fail> {
-    permits(
-        &rt,
-        rt.alloc(),
-        &TOGETHER,
-        "package 1.2.3.1 7\ntarget 1.2.3\n",
-    )?;
-    Ok(())
+fn some_of_the_listed_hardware_is_permitted(rt: HostRuntime) {
+    assert!(rt; permits(rt.alloc(), &TOGETHER, "package 1.2.3.1 7\ntarget 1.2.3\n"));
 }
 
 #[test]
-fn hardware_that_is_not_listed_is_refused(rt: HostRuntime) -> Result<(), Fail> {
+fn hardware_that_is_not_listed_is_refused(rt: HostRuntime) {
     let lines = "package 1.2.3.1 7\ntarget 1.2.3\ntarget 1.2.5\n";
-    refuses(&rt, rt.alloc(), &TOGETHER, lines)?;
-    Ok(())
+    assert!(rt; refuses(rt.alloc(), &TOGETHER, lines));
 }
 
 // It lists each in a value of its own.
@@ -124,10 +81,9 @@ const APART: Grants = Grants {
 };
 
 #[test]
-fn two_hardware_values_do_not_cover_together(rt: HostRuntime) -> Result<(), Fail> {
+fn two_hardware_values_do_not_cover_together(rt: HostRuntime) {
     let lines = "package 1.2.3.1 7\ntarget 1.2.3\ntarget 1.2.4\n";
-    refuses(&rt, rt.alloc(), &APART, lines)?;
-    Ok(())
+    assert!(rt; refuses(rt.alloc(), &APART, lines));
 }
 
 // It lists the legacy name 414243, without a stale one.
@@ -139,9 +95,8 @@ const LEGACY: Grants = Grants {
 };
 
 #[test]
-fn a_legacy_name_covers_itself(rt: HostRuntime) -> Result<(), Fail> {
+fn a_legacy_name_covers_itself(rt: HostRuntime) {
     let stale = "legacy 414243\nlegacystale 41\ntarget 1.2.3\n";
-    permits(&rt, rt.alloc(), &LEGACY, "legacy 414243\ntarget 1.2.3\n")?;
-    refuses(&rt, rt.alloc(), &LEGACY, stale)?;
-    Ok(())
+    assert!(rt; permits(rt.alloc(), &LEGACY, "legacy 414243\ntarget 1.2.3\n"));
+    assert!(rt; refuses(rt.alloc(), &LEGACY, stale));
 }

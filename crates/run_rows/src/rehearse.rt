@@ -1,10 +1,8 @@
 // Rows of `rehearse`, over sets of attributes.
-use crate::package_set::{Offered, needing, plain, put_set, sets_of, stale};
+use crate::package_set::{Offered, needing, plain, sets_of, stale};
 use crate::row::answers;
 use fwload_top::Status;
 use std::alloc::{AllocError, Global};
-use std::process::Abort;
-use std::test::Fail;
 
 // The lines of a rehearsal: of its verdicts, of the packages of these names, parted by commas, and
 // of a stale entry. The SHA-256 is that of no octets.
@@ -29,42 +27,49 @@ fn lines_of(
     Ok(lines)
 }
 
-// Rehearses an input, and compares the status and the lines.
+// Whether the rehearsal of an input ends so, with these lines.
 fn says(
-    rt: &impl Abort,
     alloc: Global,
-    input: Vec<u8>,
+    input: &[u8],
     wanted: Status,
-    lines: &str,
-) -> Result<(), AllocError> {
-    answers(rt, alloc, "f rehearse 20250101000000", input, wanted, lines)
+    verdicts: &str,
+    packages: &str,
+    stale: &str,
+) -> bool {
+    match lines_of(alloc, verdicts, packages, stale) {
+        Ok(lines) => answers(alloc, "f rehearse 20250101000000", input, wanted, &lines),
+        Err(_) => false,
+    }
 }
 
 // Sets that are all accepted, and what is installed then.
-fn accepts(
-    rt: &impl Abort,
-    alloc: Global,
-    sets: &[Offered],
-    verdicts: &str,
-    packages: &str,
-) -> Result<(), AllocError> {
-    let lines = lines_of(alloc, verdicts, packages, "")?;
-    says(rt, alloc, sets_of(alloc, sets, &[])?, Status::Done, &lines)
+fn accepts(alloc: Global, sets: &[Offered], verdicts: &str, packages: &str) -> bool {
+    match sets_of(alloc, sets, &[]) {
+        Ok(input) => says(alloc, &input, Status::Done, verdicts, packages, ""),
+        Err(_) => false,
+    }
 }
 
 // Sets, and what is behind them, of which something is refused.
 fn refuses(
-    rt: &impl Abort,
     alloc: Global,
     sets: &[Offered],
     rest: &[u8],
     verdicts: &str,
     packages: &str,
     stale: &str,
-) -> Result<(), AllocError> {
-    let lines = lines_of(alloc, verdicts, packages, stale)?;
-    let input = sets_of(alloc, sets, rest)?;
-    says(rt, alloc, input, Status::SomeRefused, &lines)
+) -> bool {
+    match sets_of(alloc, sets, rest) {
+        Ok(input) => says(
+            alloc,
+            &input,
+            Status::SomeRefused,
+            verdicts,
+            packages,
+            stale,
+        ),
+        Err(_) => false,
+    }
 }
 
 const FIRST: &str = "accepted preferred 1.2.3.1 7\n";
@@ -75,15 +80,17 @@ const DOWN: &str = "accepted preferred 1.2.3.1 2\naccepted preferred 1.2.3.1 1\n
     accepted preferred 1.2.3.4 1\n";
 
 // No set, a package, the same again, and one that needs an older version of itself.
-#[test]
-fn accepts_sets(rt: HostRuntime) -> Result<(), Fail> {
-    let a = rt.alloc();
+fn sets_are_accepted(a: Global) -> bool {
     let down = [plain(1, 2), needing(1, 1, 1, 2), plain(4, 1)];
-    accepts(&rt, a, &[], "", "")?;
-    accepts(&rt, a, &[plain(1, 7)], FIRST, "1.2.3.1 7")?;
-    accepts(&rt, a, &[plain(1, 7), plain(1, 7)], TWICE, "1.2.3.1 7")?;
-    accepts(&rt, a, &down, DOWN, "1.2.3.1 1,1.2.3.4 1")?;
-    Ok(())
+    accepts(a, &[], "", "")
+        && accepts(a, &[plain(1, 7)], FIRST, "1.2.3.1 7")
+        && accepts(a, &[plain(1, 7), plain(1, 7)], TWICE, "1.2.3.1 7")
+        && accepts(a, &down, DOWN, "1.2.3.1 1,1.2.3.4 1")
+}
+
+#[test]
+fn accepts_sets(rt: HostRuntime) {
+    assert!(rt; sets_are_accepted(rt.alloc()));
 }
 
 const BEHIND: &str = "accepted preferred 1.2.3.1 7\nrefused 1 1\n";
@@ -95,53 +102,50 @@ const BROKEN: &str = "accepted preferred 1.2.3.2 4\naccepted preferred 1.2.3.3 1
 
 // An octet behind a set, an empty set, a stale version, a need of a package that isn't there, and
 // one that another package would no longer meet.
-#[test]
-fn refuses_sets(rt: HostRuntime) -> Result<(), Fail> {
-    let a = rt.alloc();
+fn sets_are_refused(a: Global) -> bool {
     let old = [stale(7, 9), stale(9, 3), stale(10, 3)];
     let less = [plain(2, 4), needing(3, 1, 2, 4), plain(2, 3), plain(2, 5)];
     let stale_line = "stale preferred 1.2.3.1 9\n";
-    refuses(&rt, a, &[plain(1, 7)], &[0xff], BEHIND, "1.2.3.1 7", "")?;
-    refuses(&rt, a, &[], &[0x31, 0x00], "refused 19 7\n", "", "")?;
-    refuses(&rt, a, &old, &[], OLDER, "1.2.3.1 10", stale_line)?;
-    refuses(
-        &rt,
-        a,
-        &[needing(1, 7, 9, 1)],
-        &[],
-        "refused 34 31\n",
-        "",
-        "",
-    )?;
-    refuses(&rt, a, &less, &[], BROKEN, "1.2.3.2 5,1.2.3.3 1", "")?;
-    Ok(())
+    refuses(a, &[plain(1, 7)], &[0xff], BEHIND, "1.2.3.1 7", "")
+        && refuses(a, &[], &[0x31, 0x00], "refused 19 7\n", "", "")
+        && refuses(a, &old, &[], OLDER, "1.2.3.1 10", stale_line)
+        && refuses(a, &[needing(1, 7, 9, 1)], &[], "refused 34 31\n", "", "")
+        && refuses(a, &less, &[], BROKEN, "1.2.3.2 5,1.2.3.3 1", "")
+}
+
+#[test]
+fn refuses_sets(rt: HostRuntime) {
+    assert!(rt; sets_are_refused(rt.alloc()));
+}
+
+fn refuses_with(alloc: Global, input: &mut [u8], at: usize, octet: u8, verdict: &str) -> bool {
+    match input.get_mut(at) {
+        Some(changed) => {
+            *changed = octet;
+            says(alloc, input, Status::SomeRefused, verdict, "", "")
+        }
+        None => false,
+    }
 }
 
 // The set of a package with the octet at a position changed.
-fn refuses_changed(
-    rt: &impl Abort,
-    alloc: Global,
-    at: usize,
-    octet: u8,
-    verdict: &str,
-) -> Result<(), AllocError> {
-    let mut input = Vec::new(alloc);
-    put_set(&mut input, plain(1, 7))?;
-    if let Some(changed) = input.get_mut(at) {
-        *changed = octet;
+fn refuses_changed(alloc: Global, at: usize, octet: u8, verdict: &str) -> bool {
+    match sets_of(alloc, &[plain(1, 7)], &[]) {
+        Ok(mut input) => refuses_with(alloc, &mut input, at, octet, verdict),
+        Err(_) => false,
     }
-    let lines = lines_of(alloc, verdict, "", "")?;
-    says(rt, alloc, input, Status::SomeRefused, &lines)
 }
 
 // It is for another hardware type, its digest is no OCTET STRING, its first attribute is none, and
 // it is cut off.
+fn changed_sets_are_refused(a: Global) -> bool {
+    refuses_changed(a, 25, 0x04, "refused 30 27\n")
+        && refuses_changed(a, 98, 0x05, "refused 19 7\n")
+        && refuses_changed(a, 4, 0x16, "refused 16 7\n")
+        && refuses_changed(a, 2, 0x82, "refused 1 1\n")
+}
+
 #[test]
-fn refuses_changed_sets(rt: HostRuntime) -> Result<(), Fail> {
-    let a = rt.alloc();
-    refuses_changed(&rt, a, 25, 0x04, "refused 30 27\n")?;
-    refuses_changed(&rt, a, 98, 0x05, "refused 19 7\n")?;
-    refuses_changed(&rt, a, 4, 0x16, "refused 16 7\n")?;
-    refuses_changed(&rt, a, 2, 0x82, "refused 1 1\n")?;
-    Ok(())
+fn refuses_changed_sets(rt: HostRuntime) {
+    assert!(rt; changed_sets_are_refused(rt.alloc()));
 }

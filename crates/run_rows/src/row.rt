@@ -2,11 +2,9 @@
 use edge_board::{MemBoard, MemSource};
 use fwload_top::{Status, run};
 use std::alloc::{AllocError, Global};
-use std::process::Abort;
-use std::test::Fail;
 
 // The words as the program hands them over, parted by spaces: the flash file's name is the first.
-pub(crate) fn words_of(alloc: Global, text: &str) -> Result<Vec<String>, AllocError> {
+fn words_of(alloc: Global, text: &str) -> Result<Vec<String>, AllocError> {
     let mut words = Vec::new(alloc);
     for word in text.split(' ') {
         if !word.is_empty() {
@@ -16,47 +14,84 @@ pub(crate) fn words_of(alloc: Global, text: &str) -> Result<Vec<String>, AllocEr
     Ok(words)
 }
 
-// Runs the words, and compares the status and what was sent.
+// How the words end. None on want of memory for them.
+pub(crate) fn status_of(
+    alloc: Global,
+    words: &str,
+    source: &mut MemSource,
+    board: &mut MemBoard,
+) -> Option<Status> {
+    match words_of(alloc, words) {
+        Ok(words) => Some(run(alloc, &words, source, board)),
+        Err(_) => None,
+    }
+}
+
+// Whether the words end so, and this was sent.
 pub(crate) fn ends(
-    rt: &impl Abort,
     alloc: Global,
     words: &str,
     source: &mut MemSource,
     board: &mut MemBoard,
     wanted: Status,
     answer: &str,
-) -> Result<(), AllocError> {
-    let words = words_of(alloc, words)?;
-    let status = run(alloc, &words, source, board);
-    assert_eq!(rt; status, wanted, "before {answer}");
-    assert_eq!(rt; board.sent_octets(), answer.as_bytes());
-    Ok(())
+) -> bool {
+    status_of(alloc, words, source, board) == Some(wanted)
+        && board.sent_octets() == answer.as_bytes()
 }
 
-// The same over an input, and a board of one block on which nothing fails.
+// A source of this text, of which the reads of these numbers fail.
+pub(crate) fn source_of(
+    alloc: Global,
+    text: &[u8],
+    reads: &[u64],
+) -> Result<MemSource, AllocError> {
+    let reads = reads.to_vec(alloc)?;
+    match text.to_vec(alloc) {
+        Ok(text) => Ok(MemSource::new(text, reads)),
+        Err(fault) => Err(fault),
+    }
+}
+
+// The same over a text.
+pub(crate) fn says(
+    alloc: Global,
+    words: &str,
+    text: &[u8],
+    board: &mut MemBoard,
+    wanted: Status,
+    answer: &str,
+) -> bool {
+    match source_of(alloc, text, &[]) {
+        Ok(mut source) => ends(alloc, words, &mut source, board, wanted, answer),
+        Err(_) => false,
+    }
+}
+
+// The same over a text, and a board of one block on which nothing fails.
 pub(crate) fn answers(
-    rt: &impl Abort,
     alloc: Global,
     words: &str,
-    input: Vec<u8>,
+    text: &[u8],
     wanted: Status,
     answer: &str,
-) -> Result<(), AllocError> {
-    let mut source = MemSource::new(input, Vec::new(alloc));
-    let mut board = MemBoard::new(alloc, 1, Vec::new(alloc), 100, 4096)?;
-    ends(rt, alloc, words, &mut source, &mut board, wanted, answer)
+) -> bool {
+    match MemBoard::new(alloc, 1, Vec::new(alloc), 100, 4096) {
+        Ok(mut board) => says(alloc, words, text, &mut board, wanted, answer),
+        Err(_) => false,
+    }
 }
 
-// The same over an input that is given in hex.
+// The same over a text that is given in hex.
 pub(crate) fn answers_hex(
-    rt: &impl Abort,
     alloc: Global,
     words: &str,
-    input: &str,
+    text: &str,
     wanted: Status,
     answer: &str,
-) -> Result<(), Fail> {
-    let input = hex::decode(alloc, input)?;
-    answers(rt, alloc, words, input, wanted, answer)?;
-    Ok(())
+) -> bool {
+    match hex::decode(alloc, text) {
+        Ok(text) => answers(alloc, words, &text, wanted, answer),
+        Err(_) => false,
+    }
 }
