@@ -1,5 +1,4 @@
 // What `rehearse_step` says of attribute sets (RFC 5652, section 5.3; RFC 4108, section 2.2).
-use crate::row::row;
 use attribute_set::read_attribute_set;
 use config_table::{BlockNumbers, State};
 use der_core::{Octets64, Oid, read_oid};
@@ -9,7 +8,6 @@ use judge_core::{Rehearsed, rehearse_step};
 use package_attrs::{Package, PackageName};
 use package_rules::HardwareModule;
 use std::alloc::Global;
-use std::test::Fail;
 
 // The types of the attributes, and the values of those that all packages have: the hardware type 1.2.3,
 // the content's type, and a digest of octets 00.
@@ -178,49 +176,94 @@ impl Rehearsal {
     }
 }
 
-// A package, the same again, one for other hardware, and no attributes.
-#[test]
-fn packages_are_rehearsed(rt: HostRuntime) -> Result<(), Fail> {
-    let mut so_far = Rehearsal::new(rt.alloc()).ok_or("a module")?;
-    let other = Offered {
-        hardware: 4,
-        ..plain(1, 7)
-    };
-    row(&rt, so_far.takes(&plain(1, 7)), 0);
-    row(&rt, so_far.takes(&plain(1, 7)), 0);
-    row(&rt, so_far.takes(&other), 30);
-    row(&rt, so_far.takes(&with_need(1, 7, (9, 1))), 34);
-    assert_eq!(rt; (so_far.state.packages(), so_far.at(0)), (1, Some((1, 7))));
-    row(&rt, so_far.takes_set(b""), 19);
-    Ok(())
+// Whether the verdict on a package, which then goes in, is the condition that is wanted, or 0.
+fn takes(so_far: &mut Rehearsal, offered: &Offered, wanted: u8) -> bool {
+    so_far.takes(offered) == Some(wanted)
+}
+
+// Whether so many packages are there, and the last numbers and versions of the first two are these.
+fn holds(
+    so_far: &Rehearsal,
+    count: usize,
+    first: Option<(u8, u128)>,
+    second: Option<(u8, u128)>,
+) -> bool {
+    so_far.state.packages() == count && so_far.at(0) == first && so_far.at(1) == second
+}
+
+// The package for other hardware.
+const OTHER: Offered = Offered {
+    id: 1,
+    version: 7,
+    stale: None,
+    need: None,
+    hardware: 4,
+};
+
+// A package, the same again, one for other hardware, one with a need that isn't met, and no attributes.
+fn packages(so_far: &mut Rehearsal) -> bool {
+    takes(so_far, &plain(1, 7), 0)
+        && takes(so_far, &plain(1, 7), 0)
+        && takes(so_far, &OTHER, 30)
+        && takes(so_far, &with_need(1, 7, (9, 1)), 34)
+        && holds(so_far, 1, Some((1, 7)), None)
+        && so_far.takes_set(b"") == Some(19)
 }
 
 // A stale number goes up to 9, and a smaller one lowers nothing.
-#[test]
-fn stale_versions_are_rehearsed(rt: HostRuntime) -> Result<(), Fail> {
-    let mut so_far = Rehearsal::new(rt.alloc()).ok_or("a module")?;
-    row(&rt, so_far.takes(&stale(7, 9)), 0);
-    row(&rt, so_far.takes(&stale(9, 3)), 33);
-    row(&rt, so_far.takes(&stale(10, 3)), 0);
-    assert_eq!(rt; (so_far.state.packages(), so_far.at(0)), (1, Some((1, 10))));
-    assert_eq!(rt; so_far.state.stale_entries(), 1);
-    Ok(())
+fn stale_versions(so_far: &mut Rehearsal) -> bool {
+    takes(so_far, &stale(7, 9), 0)
+        && takes(so_far, &stale(9, 3), 33)
+        && takes(so_far, &stale(10, 3), 0)
+        && holds(so_far, 1, Some((1, 10)), None)
+        && so_far.state.stale_entries() == 1
 }
 
-// A need that is met must stay so; the package that is replaced isn't asked, nor is a need that isn't
-// met.
+// A need that is met must stay so.
+fn needs(so_far: &mut Rehearsal) -> bool {
+    takes(so_far, &plain(2, 4), 0)
+        && takes(so_far, &with_need(3, 1, (2, 4)), 0)
+        && takes(so_far, &plain(2, 3), 36)
+        && takes(so_far, &plain(2, 5), 0)
+        && holds(so_far, 2, Some((2, 5)), Some((3, 1)))
+}
+
+// The package that is replaced isn't asked, nor is a need that isn't met.
+fn other_needs(so_far: &mut Rehearsal) -> bool {
+    takes(so_far, &plain(1, 2), 0)
+        && takes(so_far, &with_need(1, 1, (1, 2)), 0)
+        && takes(so_far, &plain(4, 1), 0)
+        && holds(so_far, 2, Some((1, 1)), Some((4, 1)))
+}
+
+// What is rehearsed from nothing on.
+#[derive(Clone, Copy)]
+enum Sets {
+    Packages,
+    StaleVersions,
+    Needs,
+    OtherNeeds,
+}
+
+fn sets_pass(so_far: &mut Rehearsal, sets: Sets) -> bool {
+    match sets {
+        Sets::Packages => packages(so_far),
+        Sets::StaleVersions => stale_versions(so_far),
+        Sets::Needs => needs(so_far),
+        Sets::OtherNeeds => other_needs(so_far),
+    }
+}
+
+fn pass(alloc: Global, sets: Sets) -> bool {
+    match Rehearsal::new(alloc) {
+        Some(mut so_far) => sets_pass(&mut so_far, sets),
+        None => false,
+    }
+}
+
 #[test]
-fn needs_are_rehearsed(rt: HostRuntime) -> Result<(), Fail> {
-    let mut so_far = Rehearsal::new(rt.alloc()).ok_or("a module")?;
-    row(&rt, so_far.takes(&plain(2, 4)), 0);
-    row(&rt, so_far.takes(&with_need(3, 1, (2, 4))), 0);
-    row(&rt, so_far.takes(&plain(2, 3)), 36);
-    row(&rt, so_far.takes(&plain(2, 5)), 0);
-    assert_eq!(rt; (so_far.at(0), so_far.at(1)), (Some((2, 5)), Some((3, 1))));
-    let mut so_far = Rehearsal::new(rt.alloc()).ok_or("a module")?;
-    row(&rt, so_far.takes(&plain(1, 2)), 0);
-    row(&rt, so_far.takes(&with_need(1, 1, (1, 2))), 0);
-    row(&rt, so_far.takes(&plain(4, 1)), 0);
-    assert_eq!(rt; (so_far.at(0), so_far.at(1)), (Some((1, 1)), Some((4, 1))));
-    Ok(())
+fn sets_are_rehearsed(rt: HostRuntime) {
+    let a = rt.alloc();
+    assert!(rt; pass(a, Sets::Packages) && pass(a, Sets::StaleVersions));
+    assert!(rt; pass(a, Sets::Needs) && pass(a, Sets::OtherNeeds));
 }
