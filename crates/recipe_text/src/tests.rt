@@ -1,78 +1,81 @@
-use super::*;
+// Key recipes, and which line of another text is the first bad one.
+use crate::read_key_recipe;
 use lms_verify::{LmsKind, OtsKind};
-use std::alloc::{AllocError, Global};
-use std::test::Fail;
+use std::alloc::Global;
 
-const SEED: &[u8] = b"0101010101010101010101010101010101010101010101010101010101010101";
+const SEED_AND_ID: &[u8] = b"0101010101010101010101010101010101010101010101010101010101010101 \
+    01010101010101010101010101010101";
 
-const ID: &[u8] = b"01010101010101010101010101010101";
-
-// The first bad line of a text of these parts.
-fn bad_line(alloc: Global, parts: &[&[u8]]) -> Result<Option<u32>, AllocError> {
-    let mut text = Vec::new(alloc);
-    for part in parts {
-        text.extend_from_slice(part)?;
-    }
+// Whether a text has this first bad line, or, of 0, is a key recipe.
+fn is_bad_at(text: &[u8], number: u32) -> bool {
     if text.len() > 1000 {
-        return Ok(None);
+        return false;
     }
-    Ok(read_key_recipe(&text).err().map(|bad| bad.0))
+    match read_key_recipe(text) {
+        Ok(_) => number == 0,
+        Err(bad) => bad.0 == number,
+    }
 }
 
-// The first bad line of a text of one key line: what stands before SEED, and behind ID.
-fn bad_of(alloc: Global, before: &[u8], behind: &[u8]) -> Result<Option<u32>, AllocError> {
-    bad_line(alloc, &[before, SEED, b" ", ID, behind])
+// The same of a text in which SEED and ID stand between these octets.
+fn key_is_bad_at(alloc: Global, before: &[u8], behind: &[u8], number: u32) -> bool {
+    let mut text = Vec::new(alloc);
+    text.extend_from_slice(before).is_ok()
+        && text.extend_from_slice(SEED_AND_ID).is_ok()
+        && text.extend_from_slice(behind).is_ok()
+        && is_bad_at(&text, number)
 }
 
-#[test]
-fn tells_a_key_line_from_others(rt: HostRuntime) -> Result<(), Fail> {
-    let alloc = rt.alloc();
-    assert_eq!(rt; bad_of(alloc, b"key H5 W4 ", b"\n")?, None);
-    assert_eq!(rt; bad_of(alloc, b"key H10 W1 ", b"\n")?, None);
-    // lines that are skipped, and counted
-    assert_eq!(rt;
-        bad_of(alloc, b"# \xff\n\nkey H5 W2 ", b"\n#\xff\n\n")?,
-        None
-    );
-    assert_eq!(rt; bad_of(alloc, b"# \xff\n\nkey H15 W4 ", b"\n")?, Some(3));
-    // the last 0A is missing
-    assert_eq!(rt; bad_of(alloc, b"\nkey H5 W8 ", b"")?, Some(2));
-    assert_eq!(rt; bad_of(alloc, b"key H5 W4 ", b"\n#")?, Some(2));
-    // other kinds, and spaces where none may be
-    assert_eq!(rt; bad_of(alloc, b"key h5 W4 ", b"\n")?, Some(1));
-    assert_eq!(rt; bad_of(alloc, b"key W4 H5 ", b"\n")?, Some(1));
-    assert_eq!(rt; bad_of(alloc, b"key  H5 W4 ", b"\n")?, Some(1));
-    assert_eq!(rt; bad_of(alloc, b"key H5 W4 ", b" \n")?, Some(1));
-    Ok(())
+// Key lines, the third among lines that are skipped, and such lines before a kind that none signs with;
+// two texts without the last 0A; and other kinds, and spaces where none may be.
+fn tells_a_key_line(alloc: Global) -> bool {
+    key_is_bad_at(alloc, b"key H5 W4 ", b"\n", 0)
+        && key_is_bad_at(alloc, b"key H10 W1 ", b"\n", 0)
+        && key_is_bad_at(alloc, b"# \xff\n\nkey H5 W2 ", b"\n#\xff\n\n", 0)
+        && key_is_bad_at(alloc, b"# \xff\n\nkey H15 W4 ", b"\n", 3)
+        && key_is_bad_at(alloc, b"\nkey H5 W8 ", b"", 2)
+        && key_is_bad_at(alloc, b"key H5 W4 ", b"\n#", 2)
+        && key_is_bad_at(alloc, b"key h5 W4 ", b"\n", 1)
+        && key_is_bad_at(alloc, b"key W4 H5 ", b"\n", 1)
+        && key_is_bad_at(alloc, b"key  H5 W4 ", b"\n", 1)
+        && key_is_bad_at(alloc, b"key H5 W4 ", b" \n", 1)
 }
 
-// Texts without a key line, and with two.
-#[test]
-fn finds_the_first_bad_line(rt: HostRuntime) -> Result<(), Fail> {
-    let alloc = rt.alloc();
-    let key: &[u8] = b"key H5 W4 0101010101010101010101010101010101010101010101010101010101010101 \
-          01010101010101010101010101010101\n";
-    assert_eq!(rt; bad_line(alloc, &[])?, Some(1));
-    assert_eq!(rt; bad_line(alloc, &[b"#"])?, Some(1));
-    assert_eq!(rt; bad_line(alloc, &[b"# none\n", b"\n"])?, Some(3));
-    assert_eq!(rt; bad_line(alloc, &[key, b"#\n\n", key])?, Some(4));
-    assert_eq!(rt; bad_line(alloc, &[b"more\n", key])?, Some(1));
-    Ok(())
+// A comment and an empty line, and a second key line.
+const AGAIN: &[u8] =
+    b"\n#\n\nkey H5 W4 0101010101010101010101010101010101010101010101010101010101010101 \
+    01010101010101010101010101010101\n";
+
+// Texts without a key line, with two, and with another line before it.
+fn finds_the_first_bad_line(alloc: Global) -> bool {
+    is_bad_at(b"", 1)
+        && is_bad_at(b"#", 1)
+        && is_bad_at(b"# none\n\n", 3)
+        && key_is_bad_at(alloc, b"key H5 W4 ", AGAIN, 4)
+        && key_is_bad_at(alloc, b"more\nkey H5 W4 ", b"\n", 1)
 }
 
 // Hex digits of both cases, mixed.
-#[test]
-fn reads_the_parts_of_a_key(rt: HostRuntime) -> Result<(), Fail> {
-    let text = b"key H10 W8 aAbBcCdDeEfF0011aAbBcCdDeEfF0011aAbBcCdDeEfF0011aAbBcCdDeEfF0011 \
-        aAbBcCdDeEfF0011aAbBcCdDeEfF0011\n";
-    let key = read_key_recipe(text.as_slice()).map_err(|_| "a key recipe")?;
-    let eight = [0xaa, 0xbb, 0xcc, 0xdd, 0xee, 0xff, 0x00, 0x11];
-    for (place, octet) in eight.into_iter().enumerate() {
-        for octets in [key.seed.as_slice(), key.id.as_slice()] {
-            assert_eq!(rt; octets.get(place).copied(), Some(octet), "at {place}");
+const MIXED: &[u8] = b"key H10 W8 aAbBcCdDeEfF0011aAbBcCdDeEfF0011aAbBcCdDeEfF0011aAbBcCdDeEfF0011 \
+    aAbBcCdDeEfF0011aAbBcCdDeEfF0011\n";
+
+// The parts of the key that it says.
+fn reads_the_parts_of_a_key() -> bool {
+    let eight = b"\xaa\xbb\xcc\xdd\xee\xff\x00\x11";
+    match read_key_recipe(MIXED) {
+        Ok(key) => {
+            key.seed.starts_with(eight)
+                && key.id.starts_with(eight)
+                && key.kind == LmsKind::H10
+                && key.ots == OtsKind::W8
         }
+        Err(_) => false,
     }
-    assert_eq!(rt; key.kind, LmsKind::H10, "the tree");
-    assert_eq!(rt; key.ots, OtsKind::W8, "one-time keys");
-    Ok(())
+}
+
+#[test]
+fn reads_key_recipes(rt: HostRuntime) {
+    assert!(rt; tells_a_key_line(rt.alloc()));
+    assert!(rt; finds_the_first_bad_line(rt.alloc()));
+    assert!(rt; reads_the_parts_of_a_key());
 }
