@@ -14,7 +14,7 @@ use Rattle.config_table.specs.State.{Entry}
 use Rattle.config_table.specs.Stored.{Stored}
 use Rattle.bank_layout.specs.Manifest.{AreOwnBlocks, blocks_in}
 use Rattle.bank_layout.proofs.Placed.{AreDistinct, AreApart, IsOther, all_front, distinct_append, distinct_front, distinct_back, distinct_apart, apart_of}
-use Rattle.bank_layout.proofs.Texts.{text_more}
+use Rattle.der_write.proofs.Contents.{text_more}
 
 to_distinct : (xs : List ℕ) → IsApart xs → AreDistinct xs
 to_distinct xs = IsDistinct-from_AllPairs Decides-eqb xs

@@ -1,8 +1,8 @@
 -- Octets begin with one text at most.
-use Rattle.std.proofs.Common.{◌≡◌, ℕ, ◌+◌, ◌/◌, ◌%◌, ◌^◌, ◌<◌, ◌≤◌, List, [], ◌∷◌, ◌++◌, length, take, drop, get_or, slice_get, Option, Some, None, refl, ◌∙◌, sym, ap, subst, arith}
+use Rattle.std.proofs.Common.{◌≡◌, ℕ, ◌+◌, ◌/◌, ◌%◌, ◌^◌, ◌<◌, ◌≤◌, List, [], ◌∷◌, ◌++◌, length, drop, get_or, Option, Some, None, refl, ◌∙◌, sym, ap, subst, arith}
 use Rattle.std.specs.List.{AllByRecursion, flat_map}
-use Rattle.std.proofs.lemmas.List.{length-append, take_more, flat_map_more}
-use Rattle.std.proofs.lemmas.Option.{same_Some, slice_get_within, get_or_from_slice_get}
+use Rattle.std.proofs.lemmas.List.{length-append}
+use Rattle.std.proofs.lemmas.Option.{same_Some}
 use Rattle.der_core.specs.Element.{enc}
 use Rattle.der_core.specs.Number.{number_contents}
 use Rattle.der_core.specs.Shapes.{text_if}
@@ -285,14 +285,3 @@ one_manifest capacity octets m n few bm bn =
     (subst (λ (f : Format). Short (tail_0 f m)) format
     (rest_short (number_text (format_number bm.format)) (tail_0 bm.format m) s))
     (subst (λ (f : Format). tail_0 f m ≡ tail_0 bn.format n) format head.1)
-
--- ---- one text more, as a loop writes it
-
-pub text_more : {X : Type 0} (text : X → List ℕ) (xs : List X) (i : ℕ) (x : X) (before after : List ℕ)
-    → Some x ≡ slice_get xs i → before ≡ flat_map text (take i xs) → after ≡ before ++ text x
-    → after ≡ flat_map text (take (i + 1) xs)
-text_more {X} text xs i x before after is so_far more =
-    let within = slice_get_within xs i x (sym is) in
-    more ∙ ap (λ (front : List ℕ). front ++ text x) so_far ∙ flat_map_more text [] (take i xs) x
-    ∙ ap (λ (y : X). flat_map text (take i xs ++ y ∷ [])) (sym (get_or_from_slice_get xs i x x (sym is)))
-    ∙ ap (λ (ys : List X). flat_map text ys) (sym (take_more xs i x within))

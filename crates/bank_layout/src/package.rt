@@ -12,11 +12,8 @@ use crate::format::Format;
 use config_table::{BlockNumbers, Installed};
 use content_stream::blocks_for;
 use der_core::{Cursor, read_u128, tags};
-use package_attrs::{Names, PackageName, read_name};
+use package_attrs::{MOST_DEPENDENCIES, Names, PackageName, read_name};
 use std::alloc::{AllocError, Global};
-
-// How many packages a package needs at most.
-const MOST_NEEDS: usize = 8;
 
 // The greatest length that an image's number has.
 const MOST_LENGTH: u128 = 0xffff_ffff;
@@ -180,7 +177,7 @@ fn read_needs(alloc: Global, octets: &[u8]) -> Result<Option<Names>, AllocError>
         };
         names.push(name)?;
     }
-    if names.len() > MOST_NEEDS {
+    if names.len() > MOST_DEPENDENCIES {
         return Ok(None);
     }
     Ok(Some(Names::new(names)))

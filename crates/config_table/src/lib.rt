@@ -16,6 +16,8 @@
 //! - `names_stay_distinct`, `stale_stays_stale`, `packages_keep_their_places`,
 //!   `new_names_go_last`, `needs_after_a_package` and `images_stand_apart` are laws of the
 //!   definitions in `specs/State`, over any list of installed packages.
+//! - `MOST_PACKAGES` and `MOST_STALE_ENTRIES` are the limits of what a module may have; the tables
+//!   don't ask them, the rules for a package and the readers of a manifest do.
 //!
 //! The definitions are generic in what stands for an image: its octets, their number, or the
 //! blocks of flash that hold it (`Stored`), as the tables here keep it.

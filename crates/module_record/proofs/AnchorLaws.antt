@@ -1,20 +1,18 @@
 -- Anchors of records are read exactly: their parts by shapes, and what has constraints and a key by its parts.
-use Rattle.std.proofs.Common.{◌≡◌, ◌↔◌, ℕ, ◌^◌, ◌<◌, ◌≤◌, leb, List, [], ◌∷◌, ◌++◌, length, map, Option, Some, None, refl, sym, ap}
+use Rattle.std.proofs.Common.{◌≡◌, ◌↔◌, ℕ, ◌<◌, ◌≤◌, leb, List, [], ◌∷◌, ◌++◌, length, map, Option, Some, None, refl, sym, ap}
 use Rattle.std.proofs.Common.{subst, ◌∙◌, arith}
 use Rattle.std.specs.Prelude.{IfSome, IfOk, Result, Ok, Err, option_map}
 use Rattle.std.specs.List.{AllByRecursion, flat_map}
 use Rattle.std.proofs.lemmas.Bool.{leb-true, le-leb}
 use Rattle.std.proofs.lemmas.Option.{none-some}
 use Rattle.der_core.specs.Element.{enc, IsTagged, HasRoom}
-use Rattle.der_core.specs.Reading.{octets_of}
-use Rattle.der_core.specs.Shapes.{IsFront, IsWhole, element, listed, text_if, whole_element}
+use Rattle.der_core.specs.Shapes.{IsFront, IsWhole, element, listed, text_if}
 use Rattle.der_core.proofs.Components.{whole_element-front}
-use Rattle.der_core.proofs.Places.{length-enc}
 use Rattle.der_core.proofs.Shapes.{is_tag, element-front, sized-element-front, same-front, alone-whole, before-whole}
 use Rattle.der_core.proofs.Shapes.{mapped-whole, optional-whole, tested-whole, anything-whole, octets-whole}
 use Rattle.der_core.proofs.Shapes.{element-falls, listed-whole}
-use Rattle.cert_fields.specs.Anchor.{TrustAnchor, IsAnchor, HasParts}
-use Rattle.cert_fields.specs.Constraints.{ContentConstraint, constraints_text, AreConstraints}
+use Rattle.cert_fields.specs.Anchor.{TrustAnchor, HasParts}
+use Rattle.cert_fields.specs.Constraints.{ContentConstraint, constraints_text}
 use Rattle.cert_fields.proofs.AnchorLaws.{same_parts}
 use Rattle.module_record.specs.ModuleRecord.{IsKeyText, IsKeptAnchor, tagged_constraints, anchor_contents, anchor_text}
 use Rattle.module_record.specs.ModuleReading.{AnchorParts, short, constraints_in, anchor_of, anchor_at}

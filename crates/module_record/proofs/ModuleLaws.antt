@@ -7,7 +7,6 @@ use Rattle.std.proofs.lemmas.Bool.{leb-true, le-leb, eqb-true, and_parts}
 use Rattle.std.proofs.lemmas.List.{length-append}
 use Rattle.std.proofs.lemmas.Option.{none-some}
 use Rattle.der_core.specs.Element.{enc, AreOctets, HasRoom}
-use Rattle.der_core.specs.Number.{number_contents}
 use Rattle.der_core.specs.Objects.{IsOid}
 use Rattle.der_core.specs.Shapes.{IsFront, IsWhole, listed}
 use Rattle.der_core.proofs.Components.{raw-front}
@@ -22,14 +21,14 @@ use Rattle.cert_fields.specs.Anchor.{TrustAnchor}
 use Rattle.lms_sign.specs.declared.key.SignKey.{SignKey}
 use Rattle.lms_sign.specs.PublicKeys.{IsSignKey}
 use Rattle.module_record.specs.ModuleRecord.{number_text, oid_text, anchor_contents, anchor_text, module_contents}
-use Rattle.module_record.specs.ModuleRecord.{module_lists, module_text, IsKeptAnchor, HasLimits, IsModule}
+use Rattle.module_record.specs.ModuleRecord.{module_lists, module_text, IsKeptAnchor, IsModule}
 use Rattle.module_record.specs.ModuleRecord.{BeginsWithModuleRecord}
 use Rattle.module_record.specs.ModuleReading.{AnchorParts, AreMadeOf, anchor_at, oid_at, number_at, serial_at, few}
 use Rattle.module_record.specs.ModuleReading.{sequence_at, one_at, capacity_at, lists_of, module_of, module_at}
 use Rattle.module_record.specs.ModuleReading.{ListParts, ModuleParts, HasModuleParts}
 use Rattle.module_record.specs.Reading.{KeyParts, view}
 use Rattle.module_record.specs.declared.module.Module.{Module}
-use Rattle.module_record.proofs.AnchorLaws.{parts_text, parts_of, anchors-whole, kept_all, made_all, one_list_of}
+use Rattle.module_record.proofs.AnchorLaws.{parts_of, anchors-whole, kept_all, made_all, one_list_of}
 use Rattle.module_record.proofs.KeyLaws.{key_parts_text, AreKeyFields, key-front, same_key}
 use Rattle.module_record.proofs.ListLemmas.{Falls, each_room}
 

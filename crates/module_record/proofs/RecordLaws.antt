@@ -1,5 +1,5 @@
 -- How long module records are, and that they aren't key records.
-use Rattle.std.proofs.Common.{◌≡◌, ℕ, ◌+◌, ◌*◌, ◌^◌, ◌<◌, ◌≤◌, List, [], ◌∷◌, ◌++◌, length, Option, Some, None, refl, sym, ap}
+use Rattle.std.proofs.Common.{◌≡◌, ℕ, ◌+◌, ◌*◌, ◌^◌, ◌<◌, ◌≤◌, List, [], ◌∷◌, ◌++◌, length, Option, Some, None, sym, ap}
 use Rattle.std.proofs.Common.{◌∙◌, arith}
 use Rattle.std.specs.Prelude.{IfSome}
 use Rattle.std.specs.List.{AllByRecursion, flat_map}
@@ -10,13 +10,11 @@ use Rattle.der_core.specs.Objects.{IsOid}
 use Rattle.der_core.specs.Reading.{tagged_of, number_of}
 use Rattle.der_core.specs.Shapes.{text_if}
 use Rattle.der_core.proofs.Numbers.{some_is}
-use Rattle.der_core.proofs.Places.{length-enc}
-use Rattle.der_core.proofs.Shapes.{is_tag, tagged_again, number-whole, length-enc-le, length-number-le}
+use Rattle.der_core.proofs.Shapes.{tagged_again, number-whole, length-enc-le, length-number-le}
 use Rattle.cert_fields.specs.Anchor.{TrustAnchor}
 use Rattle.cert_fields.specs.Constraints.{ContentConstraint, constraints_text}
 use Rattle.lms_sign.specs.declared.key.SignKey.{SignKey}
-use Rattle.lms_sign.specs.PublicKeys.{IsSignKey}
-use Rattle.module_record.specs.KeyRecord.{key_text, key_record_text, BeginsWithKeyRecord}
+use Rattle.module_record.specs.KeyRecord.{key_text, BeginsWithKeyRecord}
 use Rattle.module_record.specs.ModuleRecord.{number_text, oid_text, tagged_constraints, anchor_contents, anchor_text}
 use Rattle.module_record.specs.ModuleRecord.{module_contents, module_lists, module_text, IsKeptAnchor, HasLimits}
 use Rattle.module_record.specs.ModuleRecord.{IsModule, HasShortSubjects, BeginsWithModuleRecord}

@@ -1,7 +1,7 @@
 -- What is put of a module has room in its elements.
 use Rattle.std.proofs.Common.{◌≡◌, ℕ, ◌+◌, ◌^◌, ◌<◌, ◌≤◌, List, [], ◌∷◌, ◌++◌, length, Option, Some, None, sym, ap, ◌∙◌, subst, arith, get_or, zero, suc}
 use Rattle.std.specs.Prelude.{IfSome, OnOk, Result, Ok, Err, option_map}
-use Rattle.std.specs.List.{flat_map, AllByRecursion}
+use Rattle.std.specs.List.{flat_map}
 use Rattle.std.proofs.lemmas.List.{length-append}
 use Rattle.der_core.specs.Element.{enc, HasRoom}
 use Rattle.der_core.specs.Shapes.{text_if}

@@ -1,5 +1,4 @@
 -- What is read of a module record by the code, as the parts of its texts.
-use Rattle.std.specs.Prelude.{List, ℕ}
 use Rattle.cert_fields.specs.View.{part_view}
 use Rattle.module_record.specs.Reading.{view}
 use Rattle.module_record.specs.ModuleReading.{AnchorParts, ListParts, ModuleParts}

@@ -16,7 +16,8 @@
 //! with the trust anchors, and `hss_chain` and `lms_sign`, with the keys. Above it stand recipes of
 //! modules, and the store of a board's banks.
 //!
-//! Limits: a subject is any SEQUENCE, as long as the record has room for it. Signing keys have trees
+//! Limits: `MOST_CAPACITY`, `MOST_LISTED`, `MOST_ANCHORS` and `MOST_CONSTRAINTS` say how much a module
+//! may have. A subject is any SEQUENCE, as long as the record has room for it. Signing keys have trees
 //! of the kinds H5 and H10 alone. Nothing is asked of an anchor's key but that it is one.
 #![tactic(auto)]
 

@@ -10,8 +10,8 @@ use der_core::Cursor;
 use std::alloc::{AllocError, Global};
 use std::marker::Model;
 
-// How many dependencies a package has at most.
-const MOST_DEPENDENCIES: u8 = 8;
+/// How many dependencies a package has at most. The limit is this project's own.
+pub const MOST_DEPENDENCIES: usize = 8;
 
 /// At most 8 names of packages in their order, each read from its octets when it is asked for.
 /// Takes no memory.

@@ -35,9 +35,9 @@
 //!
 //! Narrower than the standard: a legacy name, a legacy stale value and a serial number have 1 to
 //! 64 octets, numbers end at 2^128 - 1, and a preferred name with a legacy stale value, or the
-//! reverse, is no identifier. A package has at most 8 dependencies, and an empty list of them is no
-//! text, since none are written by leaving the list out. Of the other attributes of RFC 4108 none
-//! is read.
+//! reverse, is no identifier. A package has at most 8 dependencies (`MOST_DEPENDENCIES`), and an
+//! empty list of them is no text, since none are written by leaving the list out. Of the other
+//! attributes of RFC 4108 none is read.
 #![tactic(auto)]
 
 mod assemble;
@@ -62,7 +62,7 @@ mod tests;
 pub use assemble::read_package;
 pub use community::{Communities, Community, SerialEntries, SerialEntry};
 pub use covers::{covers_are_told, identifier_covers, targets_cover};
-pub use dependencies::Dependencies;
+pub use dependencies::{Dependencies, MOST_DEPENDENCIES};
 pub use identifier::Identifier;
 pub use image::image_of;
 pub use information::read_info;

@@ -15,14 +15,12 @@ use crate::place::{add, fill};
 use crate::words::{certificate_in, hex64_in, number_in};
 use attribute_write::NamedCommunity;
 use der_core::{Octets64, Oid};
-use package_attrs::{Identifier, PackageName, Stale};
+use package_attrs::{Identifier, MOST_DEPENDENCIES, PackageName, Stale};
 use packager::PackagePlan;
 use std::alloc::{AllocError, Global};
 
-// The most lines of targets, of dependencies and of certificates.
+// The most lines of targets, and of certificates.
 const TARGETS: usize = 64;
-
-const DEPENDENCIES: usize = 8;
 
 const CERTIFICATES: usize = 8;
 
@@ -110,14 +108,14 @@ impl PackageDraft {
             PackageKind::Depends => {
                 add(
                     &mut self.dependencies,
-                    DEPENDENCIES,
+                    MOST_DEPENDENCIES,
                     preferred_in(alloc, text)?,
                 )
             }
             PackageKind::DependsLegacy => {
                 add(
                     &mut self.dependencies,
-                    DEPENDENCIES,
+                    MOST_DEPENDENCIES,
                     legacy_in(alloc, text)?,
                 )
             }

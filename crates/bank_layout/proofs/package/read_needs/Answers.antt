@@ -29,12 +29,12 @@ loop-items-preserved c =
     (goes_on name_at _ c.loop-items.names.items c.loop-items.items c.read_name.new.fields c.in-Some.name name_falls
     c.loop-items.invariant c.in-Some.ensures.exact)
 
-pub returns-then-len-gt-MOST_NEEDS : goal.returns-then-len-gt-MOST_NEEDS
-returns-then-len-gt-MOST_NEEDS c = record {
+pub returns-then-len-gt-MOST_DEPENDENCIES : goal.returns-then-len-gt-MOST_DEPENDENCIES
+returns-then-len-gt-MOST_DEPENDENCIES c = record {
   exact = many_are_none c.args.octets.now c.loop-items.names.items
       (ends name_at _ c.loop-items.names.items c.loop-items.items
       (none_left c.loop-items.items c.at_end.result c.at_end.ensures.end c.loop-items-test.false) c.loop-items.invariant)
-      (omega (arith, c.if-len-gt-MOST_NEEDS.true, c.len.ensures));
+      (omega (arith, c.if-len-gt-MOST_DEPENDENCIES.true, c.len.ensures));
 }
 
 pub returns : goal.returns
@@ -42,6 +42,6 @@ returns c = record {
   exact = few_are_needs c.args.octets.now c.loop-items.names.items
       (ends name_at _ c.loop-items.names.items c.loop-items.items
       (none_left c.loop-items.items c.at_end.result c.at_end.ensures.end c.loop-items-test.false) c.loop-items.invariant)
-      (omega (arith, c.if-len-gt-MOST_NEEDS.false, c.len.ensures))
+      (omega (arith, c.if-len-gt-MOST_DEPENDENCIES.false, c.len.ensures))
       ∙ ap Some (sym c.new.ensures.names);
 }

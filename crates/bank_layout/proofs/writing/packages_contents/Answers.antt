@@ -1,7 +1,7 @@
 use Rattle.bank_layout.specs.declared.format.Format.TheVariants.{Two}
 use Rattle.bank_layout.specs.Manifest.{entry_text}
 use Rattle.bank_layout.proofs.Rooms.{package_room}
-use Rattle.bank_layout.proofs.Texts.{text_more}
+use Rattle.der_write.proofs.Contents.{text_more}
 use Rattle.bank_layout.proofs.writing.packages_contents.Goals as goal
 
 pub put_package-requires : goal.put_package-requires

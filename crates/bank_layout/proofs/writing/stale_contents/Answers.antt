@@ -1,7 +1,7 @@
 use Rattle.std.proofs.Common.{◌++◌, ap, ◌∙◌}
 use Rattle.package_attrs.specs.Identifier.{name_text}
 use Rattle.bank_layout.specs.Manifest.{stale_entry_text}
-use Rattle.bank_layout.proofs.Texts.{text_more}
+use Rattle.der_write.proofs.Contents.{text_more}
 use Rattle.bank_layout.proofs.writing.stale_contents.Goals as goal
 
 pub loop-place-preserved : goal.loop-place-preserved

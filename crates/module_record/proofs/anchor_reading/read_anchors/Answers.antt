@@ -1,4 +1,4 @@
-use Rattle.std.proofs.Common.{◌≡◌, ◌∙◌, ℕ, List, [], ◌++◌, ◌∷◌, arith, sym, subst, ap}
+use Rattle.std.proofs.Common.{◌∙◌, ℕ, List, [], ◌++◌, ◌∷◌, sym, subst, ap}
 use Rattle.der_core.specs.Shapes.{listed}
 use Rattle.der_core.proofs.Lists.{some_left, none_left}
 use Rattle.cert_fields.specs.Anchor.{TrustAnchor}

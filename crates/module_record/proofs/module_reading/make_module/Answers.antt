@@ -1,4 +1,4 @@
-use Rattle.std.proofs.Common.{◌≡◌, ◌∙◌, refl, sym, ap, inl, inr, arith, rules, length}
+use Rattle.std.proofs.Common.{◌∙◌, refl, sym, ap, inl, inr, arith, rules, length}
 use Rattle.std.proofs.lemmas.Option.{none-some}
 use Rattle.module_record.specs.ModuleView.{module_parts}
 use Rattle.module_record.proofs.ModuleLaws.{no_module, that_module, bad_count}

@@ -1,6 +1,6 @@
-use Rattle.std.proofs.Common.{◌+◌, ◌*◌, arith}
+use Rattle.std.proofs.Common.{arith}
 use Rattle.receipt_writer.specs.Answers.{current_text}
-use Rattle.receipt_writer.proofs.Texts.{text_more}
+use Rattle.der_write.proofs.Contents.{text_more}
 use Rattle.receipt_writer.proofs.error.config_contents.Goals as goal
 
 pub loop-place-preserved : goal.loop-place-preserved
