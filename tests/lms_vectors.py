@@ -1,6 +1,5 @@
 #!/usr/bin/env python3
-"""Makes the vectors of LMS and HSS that the tests of lms_verify, hss_chain, lms_sign, module_record, run_rows and
-judge_bench hold.
+"""Makes the vectors of LMS and HSS that sign_rows, text_rows, run_rows and judge_bench hold.
 
 A plain signer straight from the equations of RFC 8554 (sections 3.1.3, 4.3 to 4.5, 5.3, 5.4.1 and Appendix A), which
 shares no code with the crates. Secrets and the randomizer C follow from SEED as in Appendix A, C as the secret of

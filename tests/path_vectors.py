@@ -1,9 +1,9 @@
 #!/usr/bin/env python3
-"""Makes the certificates that the tests of path_check hold, by the signer of lms_vectors.py.
+"""Makes the certificates that rule_rows holds, by the signer of lms_vectors.py.
 
 Fields and extensions are put together straight from RFC 5280, section 4, and X.690; no code is shared with the crates.
 
-    python3 tests/path_vectors.py           prints crates/path_check/src/vectors.rt
+    python3 tests/path_vectors.py           prints crates/rule_rows/src/path_vectors.rt
 """
 
 from lms_vectors import Key, u32str

@@ -27,17 +27,3 @@ fn read_each(octets: &[u8]) -> bool
     }
     true
 }
-
-#[cfg(test)]
-mod tests {
-    use super::*;
-
-    // Attributes of the types 1.2 and 1.3 without values (RFC 5652, section 5.3).
-    #[test]
-    fn attributes_in_any_order_are_found(rt: HostRuntime) {
-        let two = b"\x30\x05\x06\x01\x2b\x31\x00\x30\x05\x06\x01\x2a\x31\x00";
-        assert!(rt; are_attributes(two));
-        assert!(rt; are_attributes(b""));
-        assert!(rt; !are_attributes(&two[1..]));
-    }
-}

@@ -16,8 +16,6 @@ mod communities;
 mod identifier;
 mod information;
 mod targets;
-#[cfg(test)]
-mod tests;
 
 pub use attribute::put_attribute;
 pub use communities::{NamedCommunity, put_communities};

@@ -38,8 +38,6 @@ mod gate;
 mod laws;
 mod place;
 mod states;
-#[cfg(test)]
-mod tests;
 
 pub use fault::Fault;
 pub use gate::is_open;

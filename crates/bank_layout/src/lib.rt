@@ -43,8 +43,6 @@ mod named;
 mod package;
 mod reading;
 mod tables;
-#[cfg(test)]
-mod tests;
 mod writing;
 
 pub use bank::Bank;

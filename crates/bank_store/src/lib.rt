@@ -45,8 +45,6 @@ mod key_format;
 mod laws;
 mod module_format;
 mod open;
-#[cfg(test)]
-mod tests;
 
 pub use fault::{FormatFault, HolderFault, KeyFault};
 pub use key_format::format_key;

@@ -27,8 +27,6 @@ mod blocks;
 mod laws;
 mod marks;
 mod pool;
-#[cfg(test)]
-mod tests;
 
 pub use blocks::Blocks;
 pub use laws::{

@@ -51,8 +51,6 @@ mod certificate;
 mod constraints;
 mod entries;
 mod extension_list;
-#[cfg(test)]
-mod extension_tests;
 pub mod extension_types;
 mod extension_values;
 mod extensions;
@@ -62,8 +60,6 @@ mod read;
 mod reading;
 mod sid;
 mod signed_part;
-#[cfg(test)]
-mod tests;
 
 pub use anchor::Anchor;
 pub use certificate::{Bits, Cert};

@@ -55,11 +55,7 @@ mod signed;
 mod signed_data;
 mod signer;
 mod signer_info;
-#[cfg(test)]
-mod signer_tests;
 mod tail;
-#[cfg(test)]
-mod tests;
 
 pub use certificates::Certificates;
 pub use outline::{Outline, Part, Taken, outline_step};

@@ -46,8 +46,6 @@ pub mod laws;
 mod listed;
 mod member;
 mod places;
-#[cfg(test)]
-mod tests;
 
 pub use covers::{is_by_octets, one_covers};
 pub use grant::{Grant, grant_of, permits};

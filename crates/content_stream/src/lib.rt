@@ -32,8 +32,6 @@ mod image_blocks;
 mod laws;
 mod storing;
 mod taking;
-#[cfg(test)]
-mod tests;
 mod wrap;
 
 pub use content_stream::{ContentStream, Streamed};

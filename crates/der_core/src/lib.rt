@@ -95,6 +95,3 @@ pub use splitter::{Splitter, Step, declared, split_step};
 pub use time::read_time;
 pub use time_value::{Time, TimeForm};
 pub use tlv::{Tlv, read_tlv};
-
-#[cfg(test)]
-mod tests;

@@ -30,6 +30,3 @@ pub use head::{head_size, put_head};
 pub use set::{put_set_sorted, sorted_contents};
 pub use time::put_time;
 pub use values::{put_oid, put_u128};
-
-#[cfg(test)]
-mod tests;

@@ -48,8 +48,6 @@ mod source;
 mod std_source;
 mod sure_board;
 mod sure_source;
-#[cfg(test)]
-mod tests;
 
 pub use board::{BLOCK, Board};
 pub use failed::Failed;

@@ -33,8 +33,6 @@ mod member;
 mod ordered;
 mod path;
 mod sources;
-#[cfg(test)]
-mod tests;
 mod types;
 mod values;
 mod verdict;

@@ -21,8 +21,3 @@ mod key;
 
 pub use check::hss_check;
 pub use key::{HssKey, hss_key};
-
-#[cfg(test)]
-mod tests;
-#[cfg(test)]
-mod vectors;

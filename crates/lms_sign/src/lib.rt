@@ -43,6 +43,3 @@ pub use laws::{
 };
 pub use public_key::{key_id, key_octets, leaf_count, public, signature_size};
 pub use signing::sign;
-
-#[cfg(test)]
-mod tests;

@@ -17,8 +17,7 @@
 //! Below it stands `sha2`, whose `sha256` is the hash of the definitions. The crate `hss_chain` above it
 //! chains keys, and signing uses the same words.
 //!
-//! The tests hold the signature of RFC 8554, Appendix F, test case 2, which `tests/lms_vectors.py` at
-//! the top of the repository makes again from the seeds of the standard.
+//! The crate `sign_rows` holds the signature of RFC 8554, Appendix F, test case 2.
 //!
 //! Nothing is said of forging: that one cannot find a signature without the secrets is no claim here.
 #![tactic(auto)]
@@ -43,8 +42,3 @@ pub use octets::{KEY_LEN, NUMBER_LEN, VALUE_LEN};
 pub use one_time::message_value;
 pub use signature::signature_size;
 pub use tree::{inner_value, leaf_value};
-
-#[cfg(test)]
-mod tests;
-#[cfg(test)]
-mod vectors;

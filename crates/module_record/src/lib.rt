@@ -28,8 +28,6 @@ mod limits;
 mod lists;
 mod module;
 mod module_reading;
-#[cfg(test)]
-mod tests;
 mod writing;
 
 pub use key_record::{put_key_record, read_key_record};

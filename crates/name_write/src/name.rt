@@ -36,34 +36,3 @@ fn preferred_contents(alloc: Global, id: &Oid, version: u128) -> Result<Vec<u8>,
     put_u128(alloc, &mut contents, version)?;
     Ok(contents)
 }
-
-#[cfg(test)]
-mod tests {
-    use super::*;
-    use der_core::{Octets64, read_oid};
-    use std::test::Fail;
-
-    // Whether a name's text is this one.
-    fn writes(alloc: Global, name: &PackageName, text: &[u8]) -> Result<bool, Fail> {
-        let mut out = Vec::new(alloc);
-        put_name(alloc, &mut out, name)?;
-        Ok(out.as_slice() == text)
-    }
-
-    // 1.2.3.1 in version 7, and the legacy name 414243, worked by hand from RFC 4108 and X.690.
-    #[test]
-    fn names_are_written(rt: HostRuntime) -> Result<(), Fail> {
-        let id = read_oid(&[0x2a, 3, 1]).ok_or("an identifier")?;
-        let preferred = PackageName::Preferred { id, version: 7 };
-        let legacy = PackageName::Legacy(Octets64::new(b"ABC").ok_or("octets")?);
-        assert!(rt;
-            writes(
-                rt.alloc(),
-                &preferred,
-                b"\x30\x08\x06\x03\x2a\x03\x01\x02\x01\x07"
-            )?
-        );
-        assert!(rt; writes(rt.alloc(), &legacy, b"\x04\x03ABC")?);
-        Ok(())
-    }
-}

@@ -56,8 +56,6 @@ mod package;
 mod read_community;
 mod reading;
 mod targets;
-#[cfg(test)]
-mod tests;
 
 pub use assemble::read_package;
 pub use community::{Communities, Community, SerialEntries, SerialEntry};

@@ -60,29 +60,3 @@ pub fn read_identifier(bytes: &[u8]) -> Option<Identifier>
 {
     read_whole(bytes)
 }
-
-#[cfg(test)]
-mod tests {
-    use super::*;
-
-    // Worked by hand from RFC 4108, section 2.2.3, and X.690.
-    fn reads(text: &[u8]) -> bool {
-        read_identifier(text).is_some()
-    }
-
-    // A preferred name alone, with a stale number, and with a stale value of the other kind; and a
-    // legacy name with a stale value and with an empty one.
-    #[test]
-    fn names_are_read(rt: HostRuntime) {
-        let alone = b"\x30\x09\x30\x07\x06\x02\x2a\x03\x02\x01\x07";
-        let stale = b"\x30\x0c\x30\x07\x06\x02\x2a\x03\x02\x01\x07\x02\x01\x05";
-        let other = b"\x30\x0d\x30\x07\x06\x02\x2a\x03\x02\x01\x07\x04\x02\x41\x41";
-        let legacy = b"\x30\x06\x04\x01\x42\x04\x01\x41";
-        let empty = b"\x30\x05\x04\x01\x42\x04\x00";
-        assert!(rt; reads(alone));
-        assert!(rt; reads(stale));
-        assert!(rt; !reads(other));
-        assert!(rt; reads(legacy));
-        assert!(rt; !reads(empty));
-    }
-}

@@ -28,8 +28,6 @@ mod module;
 mod overflow;
 mod refusal;
 mod target;
-#[cfg(test)]
-mod tests;
 
 pub use laws::{blocks_hold_their_ends, images_do_not_matter};
 pub use module::HardwareModule;

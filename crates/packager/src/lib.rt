@@ -42,8 +42,6 @@ mod fronts;
 pub mod laws;
 mod package;
 mod package_plan;
-#[cfg(test)]
-mod tests;
 mod unsigned;
 
 pub use certificate::issue;

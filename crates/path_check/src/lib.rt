@@ -42,8 +42,3 @@ pub use check::{PathFault, PathView, check_path};
 pub use find::{FindFault, find_path};
 pub use laws::{no_way_from_its_own_issuer, one_path, paths_by_places};
 pub use path::Path;
-
-#[cfg(test)]
-mod tests;
-#[cfg(test)]
-mod vectors;

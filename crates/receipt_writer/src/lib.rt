@@ -17,8 +17,6 @@
 mod error;
 mod hardware;
 mod receipt;
-#[cfg(test)]
-mod tests;
 
 pub use error::put_error;
 pub use receipt::put_receipt;

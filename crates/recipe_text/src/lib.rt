@@ -53,10 +53,3 @@ pub use key_recipe::read_key_recipe;
 pub use laws::{package_recipes_have_texts, recipes_have_no_bad_line};
 pub use module_recipe::read_module_recipe;
 pub use package_recipe::read_package_recipe;
-
-#[cfg(test)]
-mod module_tests;
-#[cfg(test)]
-mod plan_tests;
-#[cfg(test)]
-mod tests;
