@@ -9,7 +9,7 @@ use Rattle.lms_sign.specs.PublicKeys.{leaf_count}
 use Rattle.lms_sign.specs.SignTexts.{sign_text}
 use Rattle.packager.specs.SigningRuns.{Output, output_text}
 use Rattle.packager.specs.SigningRuns.Output.{Certifies, Packs}
-use Rattle.packager.specs.Unsigned.{Parts}
+use Rattle.signed_write.specs.Unsigned.{Parts}
 use Rattle.bank_layout.specs.Recovery.{HoldsKey}
 use Rattle.recipe_text.specs.CertRecipe.{CertRecipe, FirstBadCertLine}
 use Rattle.recipe_text.specs.PackageRecipe.{PackageRecipe, FirstBadPackageLine}

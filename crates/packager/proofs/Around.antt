@@ -1,11 +1,12 @@
 -- A certificate around its signed part: heads, the part, the algorithm and the signature.
-use Rattle.std.proofs.Common.{◌≡◌, ◌++◌, ◌+◌, ◌-◌, ◌≤◌, ◌∙◌, List, ℕ, [], ◌∷◌, length, take, drop, ap, sym, refl, append_assoc, arith}
-use Rattle.std.proofs.lemmas.List.{take_at, drop_at, drop-drop, length-append}
+use Rattle.std.proofs.Common.{◌≡◌, ◌++◌, ◌+◌, ◌-◌, ◌≤◌, ◌∙◌, List, ℕ, [], ◌∷◌, length, take, drop, ap, refl, append_assoc, arith}
+use Rattle.std.proofs.lemmas.List.{length-append}
 use Rattle.der_core.specs.BitString.{bits_contents}
 use Rattle.der_core.specs.Element.{length_octets, enc}
 use Rattle.der_core.specs.Head.{head_octets}
 use Rattle.cert_fields.specs.Algorithms.{signature_algorithm}
 use Rattle.cert_fields.specs.Certificate.{bits_text}
+use Rattle.signed_write.proofs.Packed.{within}
 
 pub algorithm_size : length signature_algorithm ≡ 15
 unfolding enc length_octets
@@ -53,19 +54,6 @@ put_text signed signature size contents long is =
 
     same : length (length_octets (1 + size)) ≡ length (length_octets (length (0 ∷ signature)))
     same = ap (λ (n : ℕ). length (length_octets n)) {x = 1 + size} {y = length (0 ∷ signature)} (omega (arith, long))
-
--- what stands behind a front and a tag, up to what comes next, is the signed part without its tag
-pub within : (front signed rest : List ℕ) → 1 ≤ length signed
-    → take (length (front ++ signed) - (length front + 1)) (drop (length front + 1) (front ++ (signed ++ rest)))
-    ≡ drop 1 signed
-within front [] rest some = absurd (omega (arith, some))
-within front (tag ∷ octets) rest some =
-    ap (take n) (sym (drop-drop 1 (length front) (front ++ (tag ∷ octets ++ rest))))
-    ∙ ap (λ (all : List ℕ). take n (drop 1 all)) (drop_at front (tag ∷ octets ++ rest) (length front) refl)
-    ∙ take_at octets rest n (omega (arith, length-append front (tag ∷ octets)))
-  where
-    n : ℕ
-    n = length (front ++ (tag ∷ octets)) - (length front + 1)
 
 -- the same of a certificate as it is put
 pub signed_within : (head signed bits : List ℕ) → 1 ≤ length signed

@@ -9,7 +9,7 @@ use Rattle.cert_fields.specs.CertificateReading.{certificate_of}
 use Rattle.cert_fields.specs.KeptCertificate.{certificate_in, no_certificate}
 use Rattle.cms_signed.specs.Certificates.{Plain, choices_text, IsChoice}
 use Rattle.packager.specs.PackagePlan.{IsCertificateText}
-use Rattle.packager.specs.PlannedMessage.{written_choices}
+use Rattle.signed_write.specs.Written.{written_choices}
 
 -- a certificate's text is read as it
 abbrev pub ReadsBack : Type 0

@@ -36,8 +36,9 @@ use Rattle.attribute_write.specs.declared.communities.NamedCommunity.{NamedCommu
 use Rattle.attribute_write.specs.Communities.{community_of}
 use Rattle.packager.specs.PackagePlan.{PlannedPackage, IsPackagePlan, HasTexts, IsNamed}
 use Rattle.packager.specs.PlannedMessage.{planned_content, planned_description, planned_attributes, described_attributes}
-use Rattle.packager.specs.PlannedMessage.{one_value, value_if, named_communities, named_info, in_order}
-use Rattle.packager.proofs.Orders.{in_order_same, in_order_sorted, in_order_contents}
+use Rattle.packager.specs.PlannedMessage.{one_value, value_if, named_communities, named_info}
+use Rattle.signed_write.specs.Orders.{in_order}
+use Rattle.signed_write.proofs.Orders.{in_order_same, in_order_sorted, in_order_contents}
 use Rattle.packager.proofs.TextSizes.{stale_size, targets_size, are_communities, communities_size, kind_size, dependencies_size}
 
 -- ---- identifiers

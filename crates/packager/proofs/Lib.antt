@@ -1,10 +1,9 @@
 pub mod Around
 pub mod Choices
 pub mod Descriptions
+pub mod Drafts
 pub mod IssuedCertificates
 pub mod Messages
-pub mod Orders
-pub mod Packed
 pub mod PlannedExtensions
 pub mod Runs
 pub mod SignatureSizes

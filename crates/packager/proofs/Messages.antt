@@ -24,7 +24,7 @@ use Rattle.cms_signed.specs.Tail.{HasTail, HasSigner, signed_conditions}
 use Rattle.cms_signed.proofs.SignedLaws.{tail_from}
 use Rattle.packager.specs.PackagePlan.{PlannedPackage, IsPackagePlan, HasTexts, IsCertificateText}
 use Rattle.packager.specs.PlannedMessage.{planned_content, planned_attributes, planned_message}
-use Rattle.packager.specs.PlannedMessage.{written_choices}
+use Rattle.signed_write.specs.Written.{written_choices}
 use Rattle.packager.specs.ReadPlans.{AllBut}
 use Rattle.packager.proofs.Choices.{ReadsBack, are_choices, written_part}
 use Rattle.packager.proofs.Descriptions.{attribute_set, attributes_size, signed_data_is, firmware_package_is}

@@ -3,4 +3,3 @@ pub mod PackagePlan
 pub mod PlannedMessage
 pub mod ReadPlans
 pub mod SigningRuns
-pub mod Unsigned

@@ -1,16 +1,12 @@
 -- The signed package that a plan stands for (RFC 5652, section 5; RFC 4108, section 2).
-use Rattle.std.specs.Prelude.{ℕ, Bool, false, List, [], ◌∷◌, ◌++◌, map, Option, Some, None, if◌then◌else◌}
-use Rattle.std.specs.Ordering.{is_lt, nat_cmp}
-use Rattle.std.specs.Cmp.Lexicographic.{slice_cmp}
+use Rattle.std.specs.Prelude.{ℕ, List, [], ◌∷◌, ◌++◌, map, Option, Some, None, if◌then◌else◌}
 use Rattle.sha2.specs.Sha256.{sha256}
-use Rattle.der_core.specs.Attribute.{Attribute, attribute_text}
+use Rattle.der_core.specs.Attribute.{Attribute}
 use Rattle.der_core.specs.Element.{enc}
-use Rattle.cert_fields.specs.Algorithms.{digest_algorithm}
 use Rattle.cert_fields.specs.KeptCertificate.{certificate_in}
-use Rattle.cert_fields.specs.Sid.{SubjectKeyIdentifier}
 use Rattle.cms_signed.specs.Certificates.{CertificateChoice, Plain}
 use Rattle.cms_signed.specs.Cut.{firmware_package}
-use Rattle.cms_signed.specs.Message.{Signer, Message}
+use Rattle.cms_signed.specs.Message.{Message}
 use Rattle.cms_signed.specs.Signer.{to_be_signed}
 use Rattle.lms_sign.specs.declared.key.SignKey.{SignKey}
 use Rattle.lms_sign.specs.SignTexts.{sign_text}
@@ -25,6 +21,8 @@ use Rattle.package_attrs.specs.Identifier.{identifier_text}
 use Rattle.package_attrs.specs.Information.{info_text}
 use Rattle.package_attrs.specs.Targets.{targets_text}
 use Rattle.attribute_write.specs.Communities.{community_of}
+use Rattle.signed_write.specs.Orders.{in_order}
+use Rattle.signed_write.specs.Written.{Written, written_message}
 use Rattle.packager.specs.PackagePlan.{PlannedPackage}
 
 -- ---- the content
@@ -76,58 +74,29 @@ described_attributes d =
     ∷ (value_if community_identifiers communities_text d.communities
     ++ value_if firmware_package_info info_text (named_info d.info.kind d.info.dependencies))
 
--- an attribute is before another: by the first octet in which their texts differ
-abbrev pub is_before : Attribute → Attribute → Bool
-is_before a b = is_lt (slice_cmp nat_cmp (attribute_text a) (attribute_text b))
-
--- an attribute in its place among others
-abbrev pub placed : Attribute → List Attribute → List Attribute
-placed a [] = a ∷ []
-placed a (b ∷ bs) = if is_before b a then b ∷ placed a bs else a ∷ b ∷ bs
-
--- attributes in ascending order of their octets (X.690, section 11.6)
-abbrev pub in_order : List Attribute → List Attribute
-in_order [] = []
-in_order (a ∷ others) = placed a (in_order others)
-
 -- the signed attributes, as they are written
 abbrev pub planned_attributes : PlannedPackage → List Attribute
 planned_attributes p = in_order (described_attributes (planned_description p))
 
 -- ---- the message
 
--- certificates that are written; none is no set
-abbrev pub written_choices : List CertificateChoice → Option (List CertificateChoice)
-written_choices [] = None
-written_choices (c ∷ cs) = Some (c ∷ cs)
-
 -- the certificates, in the plan's order
 abbrev pub planned_certificates : PlannedPackage → List CertificateChoice
 planned_certificates p = map (λ text. Plain (certificate_in text)) p.certificates
 
--- the signer, with this signature: v3, by a key identifier, with HSS/LMS over SHA-256 without parameters (RFC 5652,
--- section 5.3; RFC 9708, section 4)
-abbrev pub planned_signer : PlannedPackage → List ℕ → Signer
-planned_signer p signature = record {
-  version = 3;
-  sid = SubjectKeyIdentifier p.signer;
-  has_null = false;
-  signed_attributes = planned_attributes p;
-  signature = signature;
-  unsigned_attributes = None;
-}
-
--- the signed package, with this signature: v3 (RFC 5652, section 5.1)
-abbrev pub planned_message : PlannedPackage → List ℕ → Message
-planned_message p signature = record {
-  version = 3;
-  digest_algorithms = digest_algorithm false;
+-- what the signed package says
+abbrev pub written_of : PlannedPackage → Written
+written_of p = record {
   content_type = firmware_package;
   content = planned_content p;
-  certificates = written_choices (planned_certificates p);
-  crls = None;
-  signer = planned_signer p signature;
+  certificates = planned_certificates p;
+  signer = p.signer;
+  attributes = described_attributes (planned_description p);
 }
+
+-- the signed package, with this signature (RFC 5652, section 5.1)
+abbrev pub planned_message : PlannedPackage → List ℕ → Message
+planned_message p signature = written_message (written_of p) signature
 
 -- the signed package, signed by this key with this leaf
 abbrev pub package_by : PlannedPackage → SignKey → ℕ → Message

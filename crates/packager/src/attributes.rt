@@ -1,12 +1,10 @@
 // Writing the signed attributes of a package.
-ghost use Rattle.std.specs.Prelude.{◌≡◌, ◌++◌, ◌+◌, ◌∷◌, [], ◌≤◌, ◌^◌, OnOk, IfOk, List, length, map};
-ghost use Rattle.der_core.specs.Attribute.{Attribute, attribute_text};
-ghost use Rattle.attribute_set.specs.AttributeSet.{set_contents};
+ghost use Rattle.std.specs.Prelude.{◌≡◌, ◌++◌, ◌+◌, ◌∷◌, [], ◌≤◌, ◌^◌, OnOk, IfOk, length, map};
+ghost use Rattle.der_core.specs.Attribute.{attribute_text};
 ghost use Rattle.der_core.specs.Element.{enc};
 ghost use Rattle.std.specs.List.{concat};
 ghost use Rattle.attribute_write.specs.Communities.{community_of};
 ghost use Rattle.cms_signed.specs.Cut.{firmware_package};
-ghost use Rattle.cms_signed.specs.Signer.{signed_attributes_text};
 ghost use Rattle.package_attrs.specs.AttributeTypes.{content_type, message_digest, firmware_package_id};
 ghost use Rattle.package_attrs.specs.AttributeTypes.{target_hardware_ids, community_identifiers, firmware_package_info};
 ghost use Rattle.package_attrs.specs.Communities.{communities_text};
@@ -16,7 +14,7 @@ ghost use Rattle.package_attrs.specs.Targets.{targets_text};
 ghost use Rattle.sha2.specs.Sha256.{sha256};
 ghost use Rattle.packager.specs.PackagePlan.{package_view, IsPackagePlan};
 ghost use Rattle.packager.specs.PlannedMessage.{one_value, value_if, named_communities, named_info};
-ghost use Rattle.packager.specs.PlannedMessage.{in_order, planned_description, described_attributes, planned_attributes, planned_content};
+ghost use Rattle.packager.specs.PlannedMessage.{planned_description, described_attributes, planned_content};
 
 use crate::package_plan::PackagePlan;
 use attribute_write::{
@@ -24,8 +22,7 @@ use attribute_write::{
 };
 use cms_signed::content_types::FIRMWARE_PACKAGE;
 use der_core::{Oid, tags};
-use der_write::laws::one_set;
-use der_write::{put_tlv, sorted_contents};
+use der_write::put_tlv;
 use package_attrs::{Identifier, PackageName, attribute_types as types};
 use std::alloc::{AllocError, Global};
 
@@ -158,8 +155,13 @@ fn push_info(
     push_attribute(alloc, parts, &types::FIRMWARE_PACKAGE_INFO, &value)
 }
 
-// The attributes, each the text of one, in no order.
-fn parts(alloc: Global, plan: &PackagePlan, digest: &[u8; 32]) -> Result<Vec<Vec<u8>>, AllocError>
+// The signed attributes of a planned package, each the text of one, in no order. `digest` is the
+// SHA-256 of its content.
+pub(crate) fn parts(
+    alloc: Global,
+    plan: &PackagePlan,
+    digest: &[u8; 32],
+) -> Result<Vec<Vec<u8>>, AllocError>
     requires plan { IsPackagePlan (package_view plan.now) }
     requires digest { digest.now ≡ sha256 (planned_content (package_view plan.now)) }
     ensures ok { IfOk result (λ parts. map (λ part. part.items) parts.items ≡ map attribute_text
@@ -175,36 +177,4 @@ fn parts(alloc: Global, plan: &PackagePlan, digest: &[u8; 32]) -> Result<Vec<Vec
     push_communities(alloc, &mut parts, &plan.communities)?;
     push_info(alloc, &mut parts, plan.kind, &plan.dependencies)?;
     Ok(parts)
-}
-
-// The contents of the set of these parts, in ascending order, where they are the texts of attributes.
-fn sorted(alloc: Global, parts: &[Vec<u8>]) -> Result<Vec<u8>, AllocError>
-    ensures ok { IfOk result (λ contents. (attributes : List Attribute)
-        → map (λ part. part.items) parts.now ≡ map attribute_text attributes
-        → contents.items ≡ set_contents (in_order attributes)) }
-    ensures size { IfOk result (λ contents. length contents.items
-        ≡ length (concat (map (λ part. part.items) parts.now))) }
-{
-    one_set();
-    sorted_contents(alloc, parts)
-}
-
-// The element [0] of the signed attributes of a planned package, in ascending order of their octets
-// (RFC 5652, section 5.3; X.690, section 11.6). `digest` is the SHA-256 of its content.
-pub(crate) fn signed_attributes(
-    alloc: Global,
-    plan: &PackagePlan,
-    digest: &[u8; 32],
-) -> Result<Vec<u8>, AllocError>
-    requires plan { IsPackagePlan (package_view plan.now) }
-    requires digest { digest.now ≡ sha256 (planned_content (package_view plan.now)) }
-    ensures ok { IfOk result (λ element. element.items
-        ≡ signed_attributes_text (planned_attributes (package_view plan.now))) }
-    ensures most { IfOk result (λ element. length element.items ≤ 30006) }
-{
-    let parts = parts(alloc, plan, digest)?;
-    let contents = sorted(alloc, &parts)?;
-    let mut element = Vec::new(alloc);
-    put_tlv(alloc, &mut element, tags::CONSTRUCTED_0, &contents)?;
-    Ok(element)
 }

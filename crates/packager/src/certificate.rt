@@ -12,12 +12,12 @@ ghost use Rattle.packager.specs.CertificatePlan.{planned_extensions, written_ext
 
 use crate::certificate_plan::CertPlan;
 use crate::extensions::extensions;
-use crate::unsigned::{Places, Unsigned};
 use cert_fields::algorithms::HSS_LMS;
 use der_core::{Moment, tags};
 use der_write::{head_size, put_head, put_time, put_tlv, put_u128};
 use hss_chain::HssKey;
 use lms_sign::{SignKey, key_octets, signature_size};
+use signed_write::{Unsigned, put_algorithm};
 use std::alloc::{AllocError, Global};
 
 // The number of v3 (RFC 5280, section 4.1.2.1).
@@ -30,15 +30,6 @@ fn put_version(alloc: Global, out: &mut Vec<u8>) -> Result<(), AllocError>
     let mut version = Vec::new(alloc);
     put_u128(alloc, &mut version, V3)?;
     put_tlv(alloc, out, tags::CONSTRUCTED_0, &version)
-}
-
-// The algorithm of keys and signatures.
-#[tactic(auto, unfolding(der_core::specs::Element::enc, der_core::specs::Element::length_octets))]
-pub(crate) fn put_algorithm(out: &mut Vec<u8>) -> Result<(), AllocError>
-    ensures ok { OnOk result (out.new.items ≡ out.old.items ++ signature_algorithm) }
-    ensures most { OnOk result (length out.new.items ≤ length out.old.items + 15) }
-{
-    out.extend_from_slice(&HSS_LMS)
 }
 
 fn put_validity(

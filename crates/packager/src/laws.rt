@@ -23,7 +23,7 @@ ghost use Rattle.packager.specs.PackagePlan.{PlannedPackage, IsPackagePlan, HasT
 ghost use Rattle.packager.specs.PlannedMessage.{planned_content, planned_attributes, planned_description};
 ghost use Rattle.packager.specs.PlannedMessage.{planned_message};
 ghost use Rattle.packager.specs.ReadPlans.{IsCertificatePlan, SaysPlanned, AllBut};
-ghost use Rattle.packager.specs.Unsigned.{Parts};
+ghost use Rattle.signed_write.specs.Unsigned.{Parts};
 ghost use Rattle.packager.specs.SigningRuns.{Certifies, Packs, output_text, SigningRun, AreRuns, leaves_sent};
 
 use cert_fields::one_certificate_text;

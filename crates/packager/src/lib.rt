@@ -6,8 +6,9 @@
 //!   certificate's text, whole (`text`), in the words of `specs/CertificatePlan`.
 //! - `pack` is likewise the signed package that a plan stands for (`signed`, `size`, `text`), in the
 //!   words of `specs/PackagePlan` and `specs/PlannedMessage`.
-//! - `finish` puts the signature of a key with a spent leaf behind the octets (`octets`). It takes no
-//!   memory, and as a leaf is taken by value, none signs twice.
+//! - `Unsigned` and `finish` are those of `signed_write`: `finish` puts the signature of a key with a
+//!   spent leaf behind the octets (`octets`). It takes no memory, and as a leaf is taken by value, none
+//!   signs twice.
 //! - `laws`: a planned certificate has a text, and its extensions read as the plan's values
 //!   (`issued_certificates_are_read`). A planned package is signed data of one signer exactly where at
 //!   most 2^20 octets stand behind its content; but for this limit all that is asked of signed data
@@ -23,9 +24,10 @@
 //! A caller takes the memory with `issue` or `pack`, then spends the leaf, then signs with `finish`,
 //! and then sends.
 //!
-//! Below it stand `cert_fields`, with the texts of certificates and of their extensions, `cms_signed`,
-//! with those of signed data, `package_attrs` and `attribute_write`, with the attributes of packages,
-//! `der_write`, and `lms_sign`, with keys and signatures.
+//! Below it stand `signed_write`, which writes signed data of one signer, `cms_signed`, with the texts
+//! of signed data, `cert_fields`, with those of certificates and of their extensions, `package_attrs`
+//! and `attribute_write`, with the attributes of packages, `der_write`, and `lms_sign`, with keys and
+//! signatures.
 //!
 //! Limits: a community of modules has one serial entry, and an image at most 2^24 octets. That a
 //! certificate or a package is read back is said where what its plan says has texts
@@ -38,14 +40,12 @@ mod attributes;
 mod certificate;
 mod certificate_plan;
 mod extensions;
-mod fronts;
 pub mod laws;
 mod package;
 mod package_plan;
-mod unsigned;
 
 pub use certificate::issue;
 pub use certificate_plan::{Authority, CertPlan, KeyUses};
 pub use package::pack;
 pub use package_plan::PackagePlan;
-pub use unsigned::{Unsigned, finish};
+pub use signed_write::{Unsigned, finish};

@@ -1,7 +1,7 @@
 use Rattle.std.proofs.Common.{◌≡◌, ◌++◌, ◌+◌, ◌-◌, ◌∙◌, List, ℕ, [], ◌∷◌, length, take, drop, ap, arith}
 use Rattle.der_core.specs.Head.{head_octets}
 use Rattle.cert_fields.specs.Algorithms.{signature_algorithm}
-use Rattle.packager.specs.Unsigned.{Parts}
+use Rattle.signed_write.specs.Unsigned.{Parts}
 use Rattle.packager.proofs.Around.{put, put_text, signed_within}
 use Rattle.std.proofs.lemmas.Result.{IfOk-weaker}
 use Rattle.packager.proofs.certificate.around.Goals as goal

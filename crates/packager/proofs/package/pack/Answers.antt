@@ -1,61 +1,79 @@
-use Rattle.std.proofs.Common.{◌≡◌, ◌++◌, ◌+◌, ◌∙◌, ◌≤◌, List, ℕ, ◌∷◌, false, length, drop, option_map, ap, sym, subst, arith}
-use Rattle.std.proofs.lemmas.List.{length-append}
-use Rattle.std.proofs.lemmas.Result.{IfOk-weaker}
-use Rattle.der_core.specs.Element.{enc}
-use Rattle.der_core.specs.Number.{number_contents}
-use Rattle.der_core.specs.Shapes.{text_if}
-use Rattle.attribute_set.specs.AttributeSet.{set_contents}
-use Rattle.cert_fields.specs.Algorithms.{digest_algorithm, signature_algorithm}
-use Rattle.cms_signed.specs.Certificates.{choices_text}
-use Rattle.cms_signed.specs.Cut.{firmware_package, signed_data}
-use Rattle.cms_signed.specs.Signer.{signed_attributes_text}
+use Rattle.std.proofs.Common.{◌≡◌, ◌++◌, ◌∙◌, List, ℕ, map, length, refl, ap, ap₂, sym, arith, Vec, Global}
+use Rattle.std.specs.List.{flat_map, concat}
+use Rattle.std.proofs.lemmas.List.Folds.{flat_map-map}
+use Rattle.cms_signed.specs.Message.{message_text}
+use Rattle.cms_signed.specs.Signer.{to_be_signed}
+use Rattle.lms_sign.specs.PublicKeys.{hss_signature_size}
+use Rattle.signed_write.specs.Orders.{in_order}
+use Rattle.signed_write.specs.Unsigned.{Parts}
+use Rattle.signed_write.specs.Written.{Written, written_message}
 use Rattle.packager.specs.PackagePlan.{package_view}
-use Rattle.packager.specs.PlannedMessage.{planned_content, planned_attributes, planned_certificates, written_choices}
-use Rattle.packager.proofs.Packed.{same_parts, packed, sized, some_octets, retagged}
+use Rattle.packager.specs.PlannedMessage.{written_of}
+use Rattle.packager.proofs.Choices.{same_octets}
+use Rattle.packager.proofs.Drafts.{of_one}
 use Rattle.packager.proofs.package.pack.Goals as goal
 
-pub put_together-requires-clause-some : goal.put_together-requires-clause-some
-put_together-requires-clause-some c =
-    subst (λ (o : List ℕ). 1 ≤ length o) (sym (c.deref-8.ensures.value ∙ c.in_ok-attributes.ensures.ok))
-    (some_octets 0xA0 (set_contents (planned_attributes (package_view c.args.plan.now))))
+-- the certificates that were put together are the plan's
+all_texts : (texts given : List (Vec ℕ Global)) (octets : List ℕ) → octets ≡ flat_map (λ part. part.items) given
+    → given ≡ texts → octets ≡ flat_map (λ (text : List ℕ). text) (map (λ part. part.items) texts)
+all_texts texts given octets is same =
+    is ∙ ap (λ (parts : List (Vec ℕ Global)). flat_map (λ part. part.items) parts) same
+    ∙ sym (flat_map-map (λ (text : List ℕ). text) (λ (part : Vec ℕ Global). part.items) texts)
+
+pub begin_message-requires : goal.begin_message-requires
+begin_message-requires c =
+    let plan = c.requires.plan in
+    let certificates = c.deref-6.ensures.value
+    ∙ all_texts c.args.plan.now.certificates.items c.deref-3.result.now _ c.in_ok-certificates.ensures.ok c.deref-3.ensures.value in
+    record {
+      limits = record {
+        content_type = omega arith;
+        front = omega (arith, ap (λ (o : List ℕ). length o) c.deref-4.ensures.value, c.in_ok-head.ensures.most);
+        content = omega (arith, ap (λ (o : List ℕ). length o) c.deref-5.ensures.value, plan.image);
+        certificates = omega (arith, ap (λ (o : List ℕ). length o) certificates, plan.certificate_octets);
+        signer = omega (arith, ap (λ (o : List ℕ). length o) c.octets.ensures.value, plan.signer.1);
+        attributes =
+            omega (
+              arith,
+              ap (λ (parts : List (Vec ℕ Global)). length (concat (map (λ part. part.items) parts))) c.deref-7.ensures.value,
+              c.in_ok-attributes.ensures.most,
+            );
+      };
+    }
 
 pub returns-clause-signed : goal.returns-clause-signed
 returns-clause-signed c =
-    let are = c.deref-8.ensures.value ∙ c.in_ok-attributes.ensures.ok in
-    IfOk-weaker c.put_together.result _ _ (λ unsigned signed.
-    signed ∙ ap (λ (o : List ℕ). 0x31 ∷ drop 1 o) are
-    ∙ retagged (set_contents (planned_attributes (package_view c.args.plan.now)))) c.put_together.ensures.signed
+    let view = package_view c.args.plan.now in
+    of_one c.begin_message.result (λ (unsigned : Parts) (w : Written). unsigned.signed ≡ to_be_signed (in_order w.attributes))
+    _ (written_of view) c.begin_message.ensures.signed
+    (record {
+      content_type = refl;
+      content = ap₂ (λ (x y : List ℕ). x ++ y) c.deref-4.ensures.value c.deref-5.ensures.value ∙ c.in_ok-head.ensures.text;
+      certificates =
+          c.deref-6.ensures.value
+          ∙ all_texts c.args.plan.now.certificates.items c.deref-3.result.now _ c.in_ok-certificates.ensures.ok c.deref-3.ensures.value
+          ∙ sym (same_octets c.one_certificate_text.ensures.read view.certificates c.requires.plan.certificates);
+      signer = c.octets.ensures.value;
+      attributes =
+          ap (λ (parts : List (Vec ℕ Global)). map (λ part. part.items) parts) c.deref-7.ensures.value
+          ∙ c.in_ok-attributes.ensures.ok;
+    })
 
 pub returns-clause-text : goal.returns-clause-text
 returns-clause-text c =
     let view = package_view c.args.plan.now in
-    let front = c.in_ok-front.front.items in
-    let image = c.args.plan.now.image.items in
-    let middle = c.in_ok-middle.middle.items in
-    let attributes = c.in_ok-attributes.attributes.items in
-    let behind = c.in_ok-behind.behind.items in
-    let content = c.deref-4.result.now in
-    let head = c.deref-3.result.now in
-    let size = c.signature_size-size.result in
-    IfOk-weaker c.put_together.result _ _ (λ unsigned before. λ signature long.
-    let few : length signature ≡ size = long ∙ sym c.signature_size-size.ensures.value in
-    let all : length (image ++ (middle ++ (attributes ++ (behind ++ signature))))
-    ≡ c.len-4.result + c.len-5.result + c.len-6.result + c.len-7.result + size =
-    omega (arith, sized image middle attributes behind signature size few, c.len-4.ensures, c.len-5.ensures, c.len-6.ensures, c.len-7.ensures) in
-    let some : length (attributes ++ (behind ++ signature)) ≡ c.len.result + c.len-2.result + size =
-    omega (arith, few, length-append attributes (behind ++ signature), length-append behind signature, c.len.ensures, c.len-2.ensures) in
-    let octets : length image ≡ c.len-3.result = omega (arith, c.len-3.ensures) in
-    ap (λ (o : List ℕ). o ++ signature) (before
-    ∙ same_parts c.deref-5.result.now c.deref-6.result.now c.deref-7.result.now c.deref-8.result.now c.deref-9.result.now
-    front image middle attributes behind c.deref-5.ensures.value c.deref-6.ensures.value c.deref-7.ensures.value
-    c.deref-8.ensures.value c.deref-9.ensures.value)
-    ∙ packed front image middle attributes behind signature content head (planned_content view) (enc 0x06 signed_data)
-    (enc 0x02 (number_contents 3)) (enc 0x31 (digest_algorithm false)) (enc 0x06 firmware_package)
-    (text_if (enc 0xA0) (option_map choices_text (written_choices (planned_certificates view))))
-    (enc 0x02 (number_contents 3)) (enc 0x80 view.signer) (digest_algorithm false) signature_algorithm
-    (signed_attributes_text (planned_attributes view))
-    (c.in_ok-front.ensures.text (image ++ (middle ++ (attributes ++ (behind ++ signature)))) all)
-    (ap (λ (o : List ℕ). o ++ image) c.deref-4.ensures.value ∙ c.in_ok-content.ensures.text image octets)
-    (ap (λ (o : List ℕ). o ++ image) c.deref-3.ensures.value ∙ c.in_ok-head.ensures.text)
-    (c.in_ok-middle.ensures.text (attributes ++ (behind ++ signature)) some)
-    (c.in_ok-behind.ensures.text signature few) c.in_ok-attributes.ensures.ok) c.put_together.ensures.before
+    of_one c.begin_message.result (λ (unsigned : Parts) (w : Written). (signature : List ℕ)
+    → length signature ≡ hss_signature_size c.args.key.now → unsigned.before ++ signature ≡ message_text (written_message w signature))
+    _ (written_of view) c.begin_message.ensures.text
+    (record {
+      content_type = refl;
+      content = ap₂ (λ (x y : List ℕ). x ++ y) c.deref-4.ensures.value c.deref-5.ensures.value ∙ c.in_ok-head.ensures.text;
+      certificates =
+          c.deref-6.ensures.value
+          ∙ all_texts c.args.plan.now.certificates.items c.deref-3.result.now _ c.in_ok-certificates.ensures.ok c.deref-3.ensures.value
+          ∙ sym (same_octets c.one_certificate_text.ensures.read view.certificates c.requires.plan.certificates);
+      signer = c.octets.ensures.value;
+      attributes =
+          ap (λ (parts : List (Vec ℕ Global)). map (λ part. part.items) parts) c.deref-7.ensures.value
+          ∙ c.in_ok-attributes.ensures.ok;
+    })
