@@ -20,5 +20,6 @@ pub mod HeadLemmas
 pub mod Heads
 pub mod Steps
 pub mod Streams
+pub mod Splits
 pub mod AttributeLaws
 pub mod AskedLemmas

@@ -38,7 +38,8 @@
 //! - `specs/Asked` says of conditions in an order that all hold, or that one is the first that fails.
 //! - `laws` has what follows from the definitions alone: no element begins another, contents are
 //!   the fewest octets, different values have different texts, a text is read as its value, octets
-//!   are one list of elements, and a stream is split in one way.
+//!   are one list of elements, a stream is split in one way, and its items begin with those that
+//!   have ended.
 //!
 //! Each reader has one more clause, `exact`: its answer is what a function of `specs/Reading`
 //! gives. From those functions the shapes of `specs/Shapes` put longer readings together, and their
