@@ -12,6 +12,7 @@ pub mod Components
 pub mod Lists
 pub mod Theorems
 pub mod Times
+pub mod Decimals
 pub mod TimeValues
 pub mod Leaves
 pub mod Integers
