@@ -3,4 +3,3 @@ pub mod Orders
 pub mod OwnTypes
 pub mod Readings
 pub mod TypeLemmas
-pub mod Written

@@ -10,16 +10,15 @@
 //!   (`attributes`), which is what unsigned attributes are asked to be.
 //! - `have_own_types` says whether no type stands twice among SEQUENCEs that each begin with one
 //!   (`own`): attributes here, and extensions and content constraints above.
-//! - `laws` says that octets are those of one list of attributes at most, and that attributes of
-//!   distinct types, written as the contents of a SET OF by `der_write`, are such attributes.
+//! - `laws` says that octets are those of one list of attributes at most.
 //!
 //! Time is n log n for n attributes, beside a few looks at each octet. Only the question whether a
 //! type stands twice takes memory: a place of 8 octets for each attribute, which has at least 7
 //! octets. It is asked of attributes in order alone, and the memory is given back before the answer.
 //!
-//! Below it stand `der_core`, with the attributes, and `der_write`, with sets that are written.
-//! `package_attrs` and readers of signers' parts of signed data stand above it. `specs/Items` says
-//! what values that stay in place are, for this crate and those above.
+//! Below it stands `der_core`, with the attributes. `package_attrs` and readers of signers' parts of
+//! signed data stand above it. `specs/Items` says what values that stay in place are, for this crate
+//! and those above.
 //!
 //! Limits: those of `der_core`, for each attribute. There may be no attribute at all, which RFC
 //! 5652 leaves out. Values are elements of any kind and are not in order. That no type stands twice

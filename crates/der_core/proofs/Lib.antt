@@ -12,6 +12,7 @@ pub mod Components
 pub mod Lists
 pub mod Theorems
 pub mod Times
+pub mod Decimals
 pub mod TimeValues
 pub mod Leaves
 pub mod Integers
@@ -20,5 +21,6 @@ pub mod HeadLemmas
 pub mod Heads
 pub mod Steps
 pub mod Streams
+pub mod Splits
 pub mod AttributeLaws
 pub mod AskedLemmas

@@ -20,7 +20,7 @@ use Rattle.der_core.proofs.Sequences.{begins_from_has, none_of_none}
 -- ---- one list of items
 
 -- two elements at the front of octets are one
-sequence_once : (item other rest rest' : List ℕ) → IsSequence item → IsSequence other
+pub sequence_once : (item other rest rest' : List ℕ) → IsSequence item → IsSequence other
     → item ++ rest ≡ other ++ rest' → (item ≡ other) × (rest ≡ rest')
 sequence_once item other rest rest' s t e =
     let both : enc 0x30 s.contents ++ rest ≡ enc 0x30 t.contents ++ rest' =
@@ -28,10 +28,10 @@ sequence_once item other rest rest' s t e =
     let same = enc-one 0x30 0x30 s.contents t.contents rest rest' s.element t.element both in
     (s.text ∙ ap (enc 0x30) same.1 ∙ sym t.text, same.2)
 
-has_of : (octets item rest : List ℕ) → IsSequence item → octets ≡ item ++ rest → HasSequence octets
+pub has_of : (octets item rest : List ℕ) → IsSequence item → octets ≡ item ++ rest → HasSequence octets
 has_of octets item rest s e = record { item = item; rest = rest; sequence = s; text = e }
 
-sequence_some : (item rest : List ℕ) → IsSequence item → item ++ rest ≡ [] → ⊥
+pub sequence_some : (item rest : List ℕ) → IsSequence item → item ++ rest ≡ [] → ⊥
 sequence_some item rest s e = none_of_none (has_of [] item rest s (sym e))
 
 pub items_once : (octets : List ℕ) (these those : List (List ℕ)) → IsItems octets these → IsItems octets those

@@ -93,7 +93,7 @@ length-last_digits : (count number : ℕ) → length (last_digits count number) 
 length-last_digits zero number = refl
 length-last_digits (suc count) number = ap suc (length-last_digits count number)
 
-decimal_again : (count front number : ℕ)
+pub decimal_again : (count front number : ℕ)
     → decimal_after front (last_digits count number) ≡ Some (front * 10 ^ count + number % 10 ^ count)
 unfolding decimal_after
 decimal_again zero front number = ap (λ (n : ℕ). Some n) (omega arith)
@@ -113,10 +113,10 @@ decimal_again (suc count) front number =
     regroup front digit power low power' low' p l = rw (p, l) (omega arith)
 
 -- the digits that were read, and where their number lies
-record IsRead (front : ℕ) (os : List ℕ) (number : ℕ) : Type 0 where
-  digits : os ≡ last_digits (length os) number
-  least : front * 10 ^ length os ≤ number
-  most : number < (front + 1) * 10 ^ length os
+pub record IsRead (front : ℕ) (os : List ℕ) (number : ℕ) : Type 0 where
+  pub digits : os ≡ last_digits (length os) number
+  pub least : front * 10 ^ length os ≤ number
+  pub most : number < (front + 1) * 10 ^ length os
 
 read_more : (front digit o : ℕ) (os : List ℕ) (number : ℕ) → o ≡ 48 + digit → digit < 10
     → IsRead (front * 10 + digit) os number → IsRead front (o ∷ os) number
@@ -149,7 +149,7 @@ read_more front digit o os number is small rest =
         room : (front digit : ℕ) → digit < 10 → front * 10 + digit + 1 ≤ (front + 1) * 10
         room front digit small = omega arith
 
-decimal_take : (front : ℕ) (os : List ℕ) (number : ℕ) → decimal_after front os ≡ Some number → IsRead front os number
+pub decimal_take : (front : ℕ) (os : List ℕ) (number : ℕ) → decimal_after front os ≡ Some number → IsRead front os number
 unfolding decimal_after
 decimal_take front [] number e =
     let is = some_is front number e in
@@ -225,13 +225,13 @@ is_moment_valid number test =
       second = omega (arith, ltb-true _ _ seconds.1);
     }
 
-moment_take : (number moment : ℕ) → moment_of number ≡ Some moment → IsMoment moment × (number ≡ moment)
+pub moment_take : (number moment : ℕ) → moment_of number ≡ Some moment → IsMoment moment × (number ≡ moment)
 unfolding moment_of
 moment_take number moment e =
     let g = cond_some (is_moment number) number moment e in
     (subst IsMoment g.1 (is_moment_valid number g.0), g.1)
 
-moment_again : (moment : ℕ) → IsMoment moment → moment_of moment ≡ Some moment
+pub moment_again : (moment : ℕ) → IsMoment moment → moment_of moment ≡ Some moment
 unfolding moment_of is_moment
 moment_again moment h =
     rw (

@@ -10,6 +10,7 @@ pub mod LoadError
 pub mod Condition
 pub mod Moment
 pub mod Time
+pub mod Decimal
 pub mod TimeReading
 pub mod Boolean
 pub mod Integer

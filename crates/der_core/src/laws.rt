@@ -1,14 +1,15 @@
 //! Laws of the definitions, which no call computes.
 
 ghost use Rattle.der_core.specs.declared.time_value.Time.{Time};
-ghost use Rattle.std.specs.Prelude.{◌≡◌, ◌↔◌, ◌++◌, ◌<◌, ◌^◌, ℕ, ℤ, List, Some, IsTrue, length};
+ghost use Rattle.std.specs.Prelude.{◌≡◌, ◌↔◌, ◌++◌, ◌∷◌, ◌<◌, ◌≤◌, ◌^◌, ◌⊎◌, ℕ, ℤ, List, [], Some};
+ghost use Rattle.std.specs.Prelude.{IsTrue, length};
 ghost use Rattle.std.specs.List.{AllByRecursion, concat, flat_map};
 ghost use Rattle.der_core.specs.Attribute.{AreElements, Attribute, attribute_text, IsAttribute};
 ghost use Rattle.der_core.specs.AttributeReading.{are_elements};
 ghost use Rattle.der_core.specs.Element.{enc, AreOctets, IsElement};
 ghost use Rattle.der_core.specs.Integer.{IsInteger, twos_complement, integer_contents};
 ghost use Rattle.der_core.specs.Integer.{IsLeastSpelling};
-ghost use Rattle.der_core.specs.Items.{IsItems, items, last_item, Splits};
+ghost use Rattle.der_core.specs.Items.{IsSequence, HasSequence, IsItems, items, last_item, Splits};
 ghost use Rattle.der_core.specs.Moment.{IsMoment};
 ghost use Rattle.der_core.specs.Number.{number_contents, IsFewest};
 ghost use Rattle.der_core.specs.Objects.{oid_contents, AreSmall, IsOid};
@@ -17,6 +18,11 @@ ghost use Rattle.der_core.specs.Shapes.{IsOneElement};
 ghost use Rattle.der_core.specs.Time.{utc_text, IsUtc, generalized_text, time_tag, time_contents};
 ghost use Rattle.der_core.specs.Time.{IsTime, time_text};
 ghost use Rattle.der_core.specs.TimeReading.{time_of};
+
+/// What a slice holds is octets.
+pub fn slice_is_octets(slice: &[u8])
+    ensures { AreOctets slice.now }
+{}
 
 /// No element begins another, so octets begin with at most one (X.690, section 8.1).
 pub fn one_element()
@@ -104,6 +110,40 @@ pub fn items_of_stream()
         → IsItems (stream ++ rest) (ended ++ others) }
     ensures at_end { (stream : List ℕ) (ended : List (List ℕ)) (so_far : List ℕ)
         → Splits stream ended so_far → IsItems stream (ended ++ last_item so_far) }
+{}
+
+/// The items of octets are the whole ones that stand at their front, one after the other, and then
+/// the items of what stands behind these.
+pub fn whole_items_come_first()
+    ensures sequences { (ended items : List (List ℕ)) (rest : List ℕ) → AllByRecursion IsSequence ended
+        → IsItems (flat_map (λ item. item) ended ++ rest) items
+        → (others : List (List ℕ)) × (items ≡ ended ++ others) × IsItems rest others }
+    ensures split { (taken so_far rest : List ℕ) (ended items : List (List ℕ))
+        → Splits taken ended so_far → IsItems (taken ++ rest) items
+        → (others : List (List ℕ)) × (items ≡ ended ++ others) × IsItems (so_far ++ rest) others }
+{}
+
+/// An item that stands in front of octets is their first: a whole SEQUENCE, or one that begins none
+/// and has nothing behind it.
+pub fn item_in_front_comes_first()
+    ensures { (item rest : List ℕ) (items : List (List ℕ))
+        → IsSequence item ⊎ ((0 < length item) × (HasSequence item → ⊥) × (rest ≡ []))
+        → IsItems (item ++ rest) items
+        → (others : List (List ℕ)) × (items ≡ item ∷ others) × IsItems rest others }
+{}
+
+/// Where no front of octets is a SEQUENCE, unless it be all of them, the first item of these octets
+/// and what follows begins with all of them.
+pub fn first_item_has_its_beginning()
+    ensures { (so_far rest item : List ℕ) (others : List (List ℕ))
+        → (HasSequence so_far → IsSequence so_far) → IsItems (so_far ++ rest) (item ∷ others)
+        → (more : List ℕ) × (item ≡ so_far ++ more) × (length so_far ≤ length item) }
+{}
+
+/// Any front of octets is whole items, and then the beginning of one.
+pub fn any_front_splits()
+    ensures { (octets rest : List ℕ) (items : List (List ℕ)) → IsItems (octets ++ rest) items
+        → (ended : List (List ℕ)) × (so_far : List ℕ) × Splits octets ended so_far }
 {}
 
 /// Different moments have different texts in each form, and different times have different texts.

@@ -29,6 +29,8 @@
 //!   (`found`). `read_time` answers the moment that a UTCTime (`utc`) or a GeneralizedTime spells
 //!   (`generalized`), and none for another tag (`other`). `Time::read` answers the moment with its
 //!   form (`found`): a time has one text, while most moments can be written in either form.
+//! - `read_decimal_u128` and `read_decimal_u64` answer the number whose decimal text octets are, and
+//!   `read_decimal_moment` the moment that fourteen digits are (`spelled`).
 //! - `read_attr` answers the attribute whose text an element is (`spelled`), and `Attr::one_value`
 //!   its value where there is exactly one (`spelled`, `whole`). The type keeps that values are
 //!   elements one after the other (`elements`).
@@ -38,7 +40,8 @@
 //! - `specs/Asked` says of conditions in an order that all hold, or that one is the first that fails.
 //! - `laws` has what follows from the definitions alone: no element begins another, contents are
 //!   the fewest octets, different values have different texts, a text is read as its value, octets
-//!   are one list of elements, and a stream is split in one way.
+//!   are one list of elements, a stream is split in one way, and its items begin with those that
+//!   have ended.
 //!
 //! Each reader has one more clause, `exact`: its answer is what a function of `specs/Reading`
 //! gives. From those functions the shapes of `specs/Shapes` put longer readings together, and their
@@ -57,6 +60,7 @@ mod bit_string;
 mod boolean;
 mod condition;
 mod cursor;
+mod decimal;
 mod fault;
 mod first_octets;
 mod head;
@@ -81,6 +85,7 @@ pub use bit_string::read_bits;
 pub use boolean::read_bool;
 pub use condition::Condition;
 pub use cursor::Cursor;
+pub use decimal::{read_decimal_moment, read_decimal_u64, read_decimal_u128};
 pub use fault::DerFault;
 pub use head::{read_head, read_length};
 pub use integer::read_int_octets;

@@ -21,7 +21,7 @@ fn read_digit(octet: u8) -> Option<u8>
 }
 
 // The number that decimal digits spell.
-fn read_decimal(digits: &[u8]) -> Option<u64>
+pub(crate) fn read_decimal(digits: &[u8]) -> Option<u64>
     requires { length digits.now ≤ 14 }
     ensures exact { Answers (λ number. number) result (decimal_after 0 digits.now) }
     ensures small { IfSome result (λ number. number < 10 ^ length digits.now) }
