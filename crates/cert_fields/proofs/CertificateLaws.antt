@@ -7,7 +7,7 @@ use Rattle.std.proofs.lemmas.List.{append_cancel_right}
 use Rattle.der_core.specs.BitString.{bits_contents, IsBits}
 use Rattle.der_core.specs.Element.{enc, HasRoom, IsTagged}
 use Rattle.der_core.specs.Number.{number_contents}
-use Rattle.der_core.specs.Shapes.{text_if, text_unless, IsFront, IsWhole, IsOneElement, begins_with, alone, before, mapped}
+use Rattle.der_core.specs.Shapes.{Front, text_if, text_unless, IsFront, IsWhole, IsOneElement, begins_with, alone, before, mapped}
 use Rattle.der_core.specs.Time.{IsTime, time_text, last_digits, utc_text, generalized_text, form_tag, form_contents}
 use Rattle.der_core.specs.declared.time_value.TimeForm.{TimeForm}
 use Rattle.der_core.specs.declared.time_value.TimeForm.TheVariants.{Utc, Generalized}
@@ -29,6 +29,14 @@ use Rattle.cert_fields.specs.CertificateReading.{sequence_at, version_at, serial
 use Rattle.cert_fields.specs.CertificateReading.{OptionalParts, extensions_of, maybe_extensions_of, subject_parts_of, optional_parts_of, Unversioned}
 use Rattle.cert_fields.specs.CertificateReading.{unversioned_of, versioned_of, signed_part, has_third, signed_part_of}
 use Rattle.cert_fields.specs.CertificateReading.{signed_at, certificate_value, certificate_fields_of, certificate_of, HoldsSigned}
+
+-- a value at the front, with whatever follows
+pub and_rest : {V : Type 0} {text : V → List ℕ} {IsValid : V → Type 0} {read : Front V} → IsFront text IsValid read
+    → IsWhole (λ (x : V × List ℕ). text x.0 ++ x.1) (λ (x : V × List ℕ). IsValid x.0) read
+and_rest laws = record {
+  takes = λ bytes x octets e. laws.takes bytes x octets e;
+  again = λ x h. laws.again x.0 x.1 h;
+}
 
 -- ---- leaves
 

@@ -1,7 +1,7 @@
-// The extensions of a certificate, one after the other.
+// Extensions, one after the other.
 ghost use Rattle.std.specs.Prelude.{◌≡◌, ◌↔◌, IsTrue, IfOk, is_some, List, [], Some, map, bytes_eq};
 ghost use Rattle.std.specs.Iterator.{YieldsFirstBy, item_count};
-ghost use Rattle.std.specs.List.{AllByRecursion, IsDistinct};
+ghost use Rattle.std.specs.List.{AllByRecursion, IsDistinct, list_any};
 ghost use Rattle.attribute_set.specs.Items.{items_of, AreItems};
 ghost use Rattle.der_core.specs.Reads.{Reads, Answers};
 ghost use Rattle.der_core.specs.Shapes.{listed};
@@ -20,17 +20,19 @@ use der_core::{Cursor, Oid, read_bool, tags};
 use std::alloc::{AllocError, Global};
 use std::marker::Model;
 
-// An extension.
-#[derive(Clone, Copy)]
-pub(crate) struct ExtensionItem<'a> {
-    kind: Oid,
-    critical: bool,
-    value: &'a [u8],
+/// An extension (RFC 5280, section 4.2).
+#[derive(Clone, Copy, Debug)]
+pub struct ExtensionItem<'a> {
+    pub kind: Oid,
+    pub critical: bool,
+    /// What the OCTET STRING holds.
+    pub value: &'a [u8],
 }
 
-// Extensions in their order, each read from its octets when it is asked for.
+/// Extensions in their order, each read from its octets when it is asked for. A type may stand twice
+/// among them. Takes no memory.
 #[derive(Drop)]
-pub(crate) struct ExtensionList<'a> {
+pub struct ExtensionList<'a> {
     octets: &'a [u8],
 }
 
@@ -56,8 +58,8 @@ impl<'a> ExtensionList<'a> {
         self.octets
     }
 
-    // The same extensions, to go through.
-    fn iter(&self) -> ExtensionList<'a>
+    /// The same extensions, to go through.
+    pub fn iter(&self) -> ExtensionList<'a>
         ensures same { result ≡ self.now }
     {
         ExtensionList {
@@ -78,8 +80,22 @@ impl<'a> ExtensionList<'a> {
         true
     }
 
-    // The value of the extension of this type, where there is one.
-    pub(crate) fn value_of(&self, kind: &[u8]) -> Option<&'a [u8]>
+    /// Whether any of them is critical, known or not.
+    pub fn has_critical(&self) -> bool
+        ensures critical { result ≡ list_any (λ e. e.critical) self.now }
+    {
+        let mut left = self.iter();
+        while let Some(one) = left.next() {
+            if one.critical {
+                return true;
+            }
+        }
+        false
+    }
+
+    /// The value of the first extension of this type, which is the contents of an OBJECT IDENTIFIER.
+    /// None where there is no such extension.
+    pub fn value_of(&self, kind: &[u8]) -> Option<&'a [u8]>
         ensures exact { Answers (λ value. value.now) result (value_of kind.now self.now) }
     {
         let mut left = self.iter();
@@ -204,9 +220,11 @@ fn read_list(bytes: &[u8]) -> Option<ExtensionList<'_>>
     if items.at_end() { Some(list) } else { None }
 }
 
-// The extensions whose text the octets are, exactly.
-fn read_text(bytes: &[u8]) -> Option<ExtensionList<'_>>
+/// The extensions whose text the octets are, all of them: a certificate's, or those of a list of
+/// revoked certificates or of its entries (RFC 5280, sections 4.2, 5.2 and 5.3). Takes no memory.
+pub fn read_extension_list(bytes: &[u8]) -> Option<ExtensionList<'_>>
     ensures spelled { Reads extensions_text AreExtensions bytes.now result }
+    ensures exact { Answers (λ list. list) result (extension_list_of bytes.now) }
 {
     read_list(bytes)
 }
@@ -224,7 +242,7 @@ pub(crate) fn read_standing(part: Option<&[u8]>) -> Option<ExtensionList<'_>>
         ↔ StandsFor (part_view part.entry) all }
 {
     match part {
-        Some(part) => read_text(part),
+        Some(part) => read_extension_list(part),
         None => Some(none()),
     }
 }

@@ -1,10 +1,12 @@
 // A certificate that is kept as its octets.
-ghost use Rattle.std.specs.Prelude.{◌≡◌, ◌↔◌, Some, IfOk};
-ghost use Rattle.cert_fields.specs.Extensions.{HasExtensions};
+ghost use Rattle.std.specs.Prelude.{◌≡◌, ◌↔◌, List, Some, None, IfOk};
+ghost use Rattle.der_core.specs.Reads.{Answers};
+ghost use Rattle.cert_fields.specs.Extensions.{Extension, HasExtensions, StandsFor, value_of};
 ghost use Rattle.cert_fields.specs.declared.extensions.Extensions.{Extensions as ExtensionsOf};
 ghost use Rattle.cert_fields.specs.Certificate.{Certificate, IsCertificate, certificate_text, signed_text};
 ghost use Rattle.cert_fields.specs.View.{certificate_view, signed_view};
 
+use crate::extension_list::read_standing;
 use crate::reading::read_part;
 use crate::{Cert, Extensions, read_cert};
 use std::alloc::{AllocError, Global};
@@ -69,8 +71,26 @@ impl<'a> KeptCert<'a> {
         read_part(alloc, self.cert().signed.extensions)
     }
 
+    /// The value of its extension of this type, which is the contents of an OBJECT IDENTIFIER: what
+    /// the OCTET STRING of the first such extension holds (RFC 5280, section 4.2). The others may
+    /// say anything. Takes no memory.
+    pub fn extension(&self, kind: &[u8]) -> Option<&'a [u8]>
+        ensures value { (all : List Extension) → StandsFor self.now.signed.extensions all
+            → Answers (λ value. value.now) result (value_of kind.now all) }
+
+        // what stands in [3] is no list of extensions
+        ensures none { ((all : List Extension) → StandsFor self.now.signed.extensions all → ⊥)
+            → result ≡ None }
+    {
+        match read_standing(self.cert().signed.extensions) {
+            Some(list) => list.value_of(kind),
+            None => None,
+        }
+    }
+
     /// Its fields. Takes no memory.
     pub fn cert(&self) -> Cert<'a>
+        ensures whole { result.whole.now ≡ certificate_text self.now }
         ensures fields { certificate_view result ≡ self.now }
         ensures tbs { result.tbs.now ≡ signed_text (signed_view result.signed) }
     {

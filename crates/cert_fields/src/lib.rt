@@ -5,11 +5,21 @@
 //!   the one that they spell (`spelled`). It takes no memory. It keeps the octets (`whole`), and
 //!   those of the signed part, over which the signature is made (`tbs`).
 //! - `KeptCert` keeps a certificate as its octets, of which it is made exactly where they are one
-//!   (`spelled`), and reads it again when it is asked (`fields`, `issuer`, `subject`, `serial`, and
-//!   `spelled` of its `extensions`). It is 16 octets of memory, where `Cert` is some 290.
+//!   (`spelled`), and reads it again when it is asked (`fields`, `whole`, `tbs`, `issuer`, `subject`,
+//!   `serial`, and `spelled` of its `extensions`). `KeptCert::extension` is the value of one extension
+//!   by its type, whatever the others say (`value`, `none`). It is 16 octets of memory, where `Cert`
+//!   is some 290.
 //! - `read_extensions` answers what the extensions of a certificate say exactly where they read
 //!   (`spelled`): no type stands twice, each critical one is known, and each that is read here is of
 //!   its form. A certificate without extensions says nothing.
+//! - `read_extension_list` answers extensions exactly where the octets, all of them, are their text
+//!   (`spelled`), a type that stands twice and a critical one that isn't known among them. So it reads
+//!   those of a list of revoked certificates too. `ExtensionList` stays in place, is an iterator
+//!   (`next_gives`: `YieldsFirstBy`), and answers a value by its type (`exact`) and whether any
+//!   extension is critical (`critical`).
+//! - `read_serial_number`, `read_time` and `read_bit_string` pass such a field at the front of octets,
+//!   exactly where the text of one stands there (`spelled`), for others that have these fields.
+//! - `is_hss_lms` answers whether an algorithm is HSS/LMS without parameters (`exact`).
 //! - `read_ccc` answers content constraints exactly where the octets, all of them, are their text, and
 //!   they are the ones that it spells (`spelled`). In `Ccc` no content type stands twice, nor an
 //!   attribute type in one entry.
@@ -25,8 +35,9 @@
 //!   `one_reading_of_extensions` are the laws that two lists of constraints never share a text, and
 //!   that extensions read in one way at most (`unique`).
 //!
-//! `read_cert` has one more clause, `exact`: its answer is what a function of
-//! `specs/CertificateReading` gives. Who reads contracts can pass over it.
+//! `read_cert`, `read_extension_list` and the three readers of a field have one more clause, `exact`:
+//! the answer is what a function of `specs/CertificateReading` or `specs/ExtensionsReading` gives. Who
+//! reads contracts can pass over it.
 //!
 //! Values stay in place in their octets. Memory is taken only to see that no type stands twice, 8
 //! octets for each entry of 5 octets at least, each extension of 7 or each constrained attribute of
@@ -54,6 +65,7 @@ mod extension_list;
 pub mod extension_types;
 mod extension_values;
 mod extensions;
+mod fields;
 mod kept;
 mod laws;
 mod read;
@@ -65,7 +77,9 @@ pub use anchor::Anchor;
 pub use certificate::{Bits, Cert};
 pub use constraints::{Ccc, read_ccc};
 pub use entries::{AttrConstraints, CccEntry, Entries};
+pub use extension_list::{ExtensionItem, ExtensionList, read_extension_list};
 pub use extensions::{CaRule, Extensions};
+pub use fields::{read_bit_string, read_serial_number, read_time};
 pub use kept::KeptCert;
 pub use laws::{one_certificate_text, one_constraints_text, one_reading_of_extensions};
 pub use read::read_cert;

@@ -51,7 +51,7 @@ fn read_version(items: &mut Cursor<'_>) -> Option<u8>
 }
 
 #[tactic(auto, unfolding(crate::specs::CertificateReading::serial_at))]
-fn read_serial<'a>(items: &mut Cursor<'a>) -> Option<&'a [u8]>
+pub(crate) fn read_serial<'a>(items: &mut Cursor<'a>) -> Option<&'a [u8]>
     ensures { Answers (λ serial. (serial.now, items.new)) result (serial_at items.old) }
 {
     let serial = read_int_octets(items.tagged(tags::INTEGER)?)?;
@@ -63,7 +63,7 @@ fn read_serial<'a>(items: &mut Cursor<'a>) -> Option<&'a [u8]>
 }
 
 #[tactic(auto, unfolding(der_core::specs::TimeReading::time_at))]
-fn read_time_at(items: &mut Cursor<'_>) -> Option<Time>
+pub(crate) fn read_time_at(items: &mut Cursor<'_>) -> Option<Time>
     ensures { Answers (λ time. (time, items.new)) result (time_at items.old) }
 {
     let (tag, contents, _) = items.next()?;

@@ -392,14 +392,6 @@ is_digest s e = elim (cases_Bool (bytes_eq s.digest_algorithm (digest_algorithm 
   | inr isnt ↦ (true, (bytes_eq-Decides s.digest_algorithm (digest_algorithm true)).0 (rw isnt at e))
 ]
 
-pub is_signature : (s : SignerInfo) → bytes_eq s.signature_algorithm signature_algorithm ≡ true
-    → s.signature_algorithm ≡ signature_algorithm
-is_signature s e = (bytes_eq-Decides s.signature_algorithm signature_algorithm).0 e
-
-pub isnt_signature : (s : SignerInfo) → bytes_eq s.signature_algorithm signature_algorithm ≡ false
-    → s.signature_algorithm ≡ signature_algorithm → ⊥
-isnt_signature s e is = false≢true (sym e ∙ (bytes_eq-Decides s.signature_algorithm signature_algorithm).1 is)
-
 pub isnt_digest : (s : SignerInfo)
     → bytes_eq s.digest_algorithm (digest_algorithm false) || bytes_eq s.digest_algorithm (digest_algorithm true) ≡ false
     → HasDigest s → ⊥

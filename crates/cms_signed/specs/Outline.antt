@@ -1,6 +1,7 @@
 -- What is seen of an outline, and what that says of the octets of the item that it has been fed.
 use Rattle.std.specs.Prelude.{◌≡◌, ℕ, ◌+◌, ◌-◌, min, List, [], ◌++◌, length, take, drop, Option, Some, None}
 use Rattle.std.specs.Prelude.{MatchOption}
+use Rattle.std.specs.Option.{option_map_or}
 use Rattle.cms_signed.specs.declared.outline.Part.{Part}
 use Rattle.cms_signed.specs.declared.outline.Part.TheVariants.{Frame, Content}
 use Rattle.cms_signed.specs.Cut.{HasCut, BeginsContent}
@@ -37,3 +38,7 @@ content_of (Some cut) item = take cut.1 (drop cut.0 item)
 abbrev pub added : Part → List ℕ → List ℕ
 added Content piece = piece
 added Frame piece = []
+
+-- how many octets of the content haven't come; none where no head stands at the front
+abbrev pub left_of : Seen → ℕ
+left_of seen = option_map_or (λ cut. cut.1 - seen.count) seen.cut 0

@@ -1,7 +1,7 @@
 -- What the code reads, as the values of the readings.
 use Rattle.std.specs.Prelude.{◌≡◌, ℕ, List, Option, option_map}
 use Rattle.std.specs.Borrow.{Bor}
-use Rattle.cert_fields.specs.Certificate.{certificate_text, IsCertificate}
+use Rattle.cert_fields.specs.Certificate.{certificate_text, IsCertificate, signed_text as certificate_signed_text}
 use Rattle.cert_fields.specs.View.{certificate_view}
 use Rattle.cert_fields.specs.declared.certificate.Cert.{Cert}
 use Rattle.cms_signed.specs.declared.gapped.Gapped.{Gapped}
@@ -43,10 +43,11 @@ abbrev pub choice_view : Choice → CertificateChoice
 choice_view (choices.Plain certificate) = Plain (certificate_view certificate)
 choice_view (choices.Other tag contents) = Other tag contents.now
 
--- a certificate that was read of its whole text
+-- a certificate that was read of its whole text, with the octets of both and of its signed part
 pub record IsWhole (c : Cert) : Type 0 where
   pub valid : IsCertificate (certificate_view c)
   pub text : c.whole.now ≡ certificate_text (certificate_view c)
+  pub tbs : c.tbs.now ≡ certificate_signed_text (certificate_view c).signed
 
 -- a choice that is a certificate was read so
 abbrev pub HasWhole : Choice → Type 0

@@ -88,7 +88,10 @@ fn kept<'a>(certificate: &Cert<'a>) -> KeptCert<'a>
 impl<'a> Iterator for Certificates<'a> {
     type Item = Cert<'a>;
 
-    ghost next_gives = { YieldsFirstBy certificate_view (λ certificates. certificates) };
+    // each with its octets, and those of its signed part
+    ghost next_gives = { λ before result after.
+        YieldsFirstBy certificate_view (λ certificates. certificates) before result after
+        × IfSome result IsWhole };
 
     ghost remaining = { item_count (λ certificates. certificates) };
 

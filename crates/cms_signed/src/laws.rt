@@ -8,7 +8,7 @@ ghost use Rattle.der_core.specs.Integer.{IsInteger};
 ghost use Rattle.der_core.specs.Items.{IsSequence};
 ghost use Rattle.der_core.specs.LeafReading.{integer_of};
 ghost use Rattle.cms_signed.specs.Answer.{put_in, FitsCut};
-ghost use Rattle.cms_signed.specs.Cut.{HasCut};
+ghost use Rattle.cms_signed.specs.Cut.{HasCut, firmware_package};
 ghost use Rattle.cms_signed.specs.Message.{Message, IsMessage, message_text};
 ghost use Rattle.cms_signed.specs.Outline.{Seen, Sees, content_of};
 ghost use Rattle.cms_signed.specs.Signed.{outer_conditions, IsOuter};
@@ -77,4 +77,12 @@ pub fn accepted_items_are_messages()
 pub fn one_message()
     ensures { (kind other : List ℕ) (m n : Message) → IsMessage kind m → IsMessage other n
         → message_text m ≡ message_text n → m ≡ n }
+{}
+
+/// A message of a firmware package has a cut, and its content stands there. So an item of which the
+/// conditions 3 to 18 hold was cut as it came.
+pub fn messages_have_a_cut()
+    ensures { (m : Message) → IsMessage firmware_package m
+        → (place : ℕ) × HasCut (message_text m) place (length m.content)
+        × (content_of (Some (place, length m.content)) (message_text m) ≡ m.content) }
 {}

@@ -10,14 +10,17 @@
 //!   the one `Message` of specs/Message whose text the item is. `read_signed_of` does so for a content
 //!   of another type, and `read_signed_cut` for each item that a frame and a cut stand for (`answer`).
 //! - `Certificates` stay in place in their octets and are seen as the list that these spell. It is an
-//!   iterator that reads the next certificate when it is asked for (`next_gives`: `YieldsFirstBy`).
-//!   `Certificates::keep` keeps each of them as its octets (`kept`).
+//!   iterator that reads the next certificate when it is asked for (`next_gives`: `YieldsFirstBy`, and
+//!   `IsWhole`: with its octets and those of its signed part). `Certificates::keep` keeps each of them
+//!   as its octets (`kept`).
 //! - `outline_step` takes the front of a piece, all of one part: it says whether these octets are
 //!   content (`part`, `within`), and frame, cut and count are those of all octets that the item has
 //!   had, whatever the pieces (`seen`). The octets that it calls content, one after the other, are
-//!   the content (`content`).
+//!   the content (`content`). It takes as much of the content as the piece has (`most`), and behind the
+//!   content the whole piece (`behind`). A cut stays once it is known (`stays`).
 //! - `laws`: of an item the conditions hold exactly where it is the text of a message
-//!   (`accepted_items_are_messages`), and that is one (`one_message`). An item has one content at most
+//!   (`accepted_items_are_messages`), and that is one (`one_message`). A message of a firmware package
+//!   has a cut, and its content stands there (`messages_have_a_cut`). An item has one content at most
 //!   (`one_content`) and one outline (`one_outline`). It is its frame with the content put in at the
 //!   cut, as far as that has come (`put_together`), and whole where it has come whole (`whole_item`).
 //!   Its frame is one that `read_signed_cut` takes (`frame_has_cut`). A version before a content is any

@@ -1,6 +1,7 @@
 ghost use Rattle.std.specs.Prelude.{◌≡◌, ◌<◌, ◌≤◌, ◌+◌, ◌++◌, ℕ, List, [], length, take, IfOk};
-ghost use Rattle.std.specs.Prelude.{OnErr, IfSome, Some, None};
-ghost use Rattle.cms_signed.specs.Outline.{NoCut, Sees, IsOf, content_of, added};
+ghost use Rattle.std.specs.Prelude.{OnErr, IfSome, IsSome, Some, None, min};
+ghost use Rattle.cms_signed.specs.declared.outline.Part.TheVariants.{Frame, Content};
+ghost use Rattle.cms_signed.specs.Outline.{NoCut, Sees, IsOf, content_of, added, left_of};
 
 use crate::cut::{Missing, find_cut};
 use std::alloc::{AllocError, Global};
@@ -82,6 +83,7 @@ impl Outline {
         ensures content { IfOk result (λ taken. (item : List ℕ) → Sees self.old item
             → content_of self.new.cut (item ++ take taken.n piece.now)
             ≡ content_of self.old.cut item ++ added taken.part (take taken.n piece.now)) }
+        ensures frame { IfOk result (λ taken. taken.part ≡ Frame) }
         ensures err { OnErr result (self.new ≡ self.old) }
     {
         let n = before_head(&self.frame, piece);
@@ -110,8 +112,10 @@ fn before_head(frame: &[u8], piece: &[u8]) -> usize
     }
 }
 
-/// Takes the front of a piece: as many octets as are all of one part, one at least where the piece
-/// isn't empty. The octets behind them are the next piece. On want of memory nothing is taken.
+/// Takes the front of a piece, all of it of one part, and one octet at least where the piece isn't
+/// empty. Until the head of a content is whole no octet is taken that may be content. Of the content
+/// as much is taken as the piece has, and behind it the whole piece. The octets behind those that
+/// are taken are the next piece. On want of memory nothing is taken.
 pub fn outline_step(outline: &mut Outline, piece: &[u8]) -> Result<Taken, AllocError>
     ensures seen { IfOk result (λ taken. (item : List ℕ) → Sees outline.old item
         → Sees outline.new (item ++ take taken.n piece.now)) }
@@ -122,6 +126,15 @@ pub fn outline_step(outline: &mut Outline, piece: &[u8]) -> Result<Taken, AllocE
     ensures content { IfOk result (λ taken. (item : List ℕ) → Sees outline.old item
         → content_of outline.new.cut (item ++ take taken.n piece.now)
         ≡ content_of outline.old.cut item ++ added taken.part (take taken.n piece.now)) }
+
+    // as much of the content as the piece has, and behind the content all of the piece
+    ensures most { IfOk result (λ taken. taken.part ≡ Content
+        → taken.n ≡ min (length piece.now) (left_of outline.old)) }
+    ensures behind { IfOk result (λ taken. IsSome outline.old.cut → left_of outline.old ≡ 0
+        → taken.n ≡ length piece.now) }
+
+    // a cut that is known stays
+    ensures stays { (cut : ℕ × ℕ) → outline.old.cut ≡ Some cut → outline.new.cut ≡ Some cut }
     ensures err { OnErr result (outline.new ≡ outline.old) }
 {
     let Some((_, size)) = outline.cut else {

@@ -5,7 +5,7 @@ ghost use Rattle.der_core.specs.Asked.{FirstFail};
 ghost use Rattle.der_core.specs.Element.{IsTagged, HasRoom};
 ghost use Rattle.der_core.specs.Reads.{Reads};
 ghost use Rattle.attribute_set.specs.AttributeSet.{IsAttributeSet, AreAttributes};
-ghost use Rattle.cert_fields.specs.Algorithms.{digest_algorithm, signature_algorithm};
+ghost use Rattle.cert_fields.specs.Algorithms.{digest_algorithm};
 ghost use Rattle.cms_signed.specs.SignedAnswer.{IsTailAnswer};
 ghost use Rattle.cms_signed.specs.SignedView.{signer_view};
 ghost use Rattle.cms_signed.specs.Signer.{signed_attributes_text};
@@ -17,7 +17,7 @@ use crate::signed::{SignedFault, SignedView};
 use crate::signer_info::{SignerInfo, is_one_sequence, read_signer_info};
 use crate::tail::read_tail;
 use attribute_set::{Attributes, are_attributes, read_attribute_set};
-use cert_fields::algorithms::{HSS_LMS, SHA_256, SHA_256_NULL};
+use cert_fields::algorithms::{SHA_256, SHA_256_NULL, is_hss_lms};
 use der_core::{Condition, Cursor, tags};
 use std::alloc::{AllocError, Global};
 
@@ -89,14 +89,6 @@ fn is_sha_256(algorithm: &[u8]) -> bool
         || bytes_eq algorithm.now (digest_algorithm true)) }
 {
     algorithm == SHA_256.as_slice() || algorithm == SHA_256_NULL.as_slice()
-}
-
-// Whether an algorithm is HSS/LMS.
-#[tactic(auto, unfolding(der_core::specs::Element::enc, der_core::specs::Element::length_octets))]
-fn is_hss_lms(algorithm: &[u8]) -> bool
-    ensures { result ≡ bytes_eq algorithm.now signature_algorithm }
-{
-    algorithm == HSS_LMS.as_slice()
 }
 
 // What stands behind the content, by the conditions 12 to 18.

@@ -1,6 +1,7 @@
 use Rattle.std.proofs.Common.{ℕ, List, Option, ap, sym, ◌∙◌}
 use Rattle.std.specs.Prelude.{option_map}
 use Rattle.std.specs.Borrow.{Bor}
+use Rattle.std.proofs.lemmas.Bool.{false≢true}
 use Rattle.std.proofs.lemmas.Option.{none-some}
 use Rattle.cms_signed.specs.SignedView.{signer_view}
 use Rattle.cms_signed.specs.Signer.{to_be_signed}
@@ -44,14 +45,14 @@ returns-then-not-is_hss_lms-clause-answer c =
     (laws.bad_signature c.args.tail.now _ (signer_view c.in-Ok.found.1) c.in-Ok.ensures
     (c.in-Some-2.attrs, signed.0, signed.1)
     (laws.is_digest (signer_view c.in-Ok.found.1) (sym c.is_sha_256.ensures ∙ c.if-not-is_sha_256.false))
-    (laws.isnt_signature (signer_view c.in-Ok.found.1) (sym c.is_hss_lms.ensures ∙ c.if-not-is_hss_lms.true)))
+    (λ is. false≢true (sym c.if-not-is_hss_lms.true ∙ c.is_hss_lms.ensures.exact.1 is)))
 
 pub returns-clause-answer : goal.returns-clause-answer
 returns-clause-answer c =
     let signed = laws.some_read (signer_view c.in-Ok.found.1) c.in-Some.element.now c.in_ok-attrs.field-0
     c.in-Some-2.attrs (ap octets c.in-Some.is) c.in_ok-attrs.ensures c.in-Some-2.is in
     let digest = laws.is_digest (signer_view c.in-Ok.found.1) (sym c.is_sha_256.ensures ∙ c.if-not-is_sha_256.false) in
-    let signature = laws.is_signature (signer_view c.in-Ok.found.1) (sym c.is_hss_lms.ensures ∙ c.if-not-is_hss_lms.false) in
+    let signature = c.is_hss_lms.ensures.exact.0 c.if-not-is_hss_lms.false in
     let b = laws.is_behind c.args.tail.now _ (signer_view c.in-Ok.found.1) c.in-Some-2.attrs c.in-Ok.ensures
     signed.0 signed.1 digest signature in (
       laws.all_asked c.args.tail.now _ (signer_view c.in-Ok.found.1) c.in-Ok.ensures (c.in-Some-2.attrs, signed.0, signed.1)
