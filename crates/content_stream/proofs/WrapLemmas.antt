@@ -1,13 +1,13 @@
 -- The octets before an image.
-use Rattle.std.proofs.Common.{◌≡◌, ⊎_elim, inl, inr, ℕ, ◌+◌, ◌-◌, ◌<◌, ◌≤◌, ◌^◌, List, ◌++◌, length, take, drop, refl, sym, ap, ◌∙◌, subst, arith, length-append, length-drop, take-append-drop, Ok}
+use Rattle.std.proofs.Common.{◌≡◌, ⊎_elim, inl, inr, ℕ, ◌+◌, ◌-◌, ◌<◌, ◌≤◌, ◌^◌, List, ◌++◌, length, take, drop, refl, sym, ap, ◌∙◌, subst, arith, length-append, length-drop, take-append-drop, Result, Ok, Err}
 use Rattle.std.proofs.lemmas.Int.Digits.{length-digits_of-le}
 use Rattle.std.proofs.lemmas.List.{take_at, drop_at, take-take}
-use Rattle.std.proofs.lemmas.Bool.{cases_lt, lt-ltb, le-ltb}
+use Rattle.std.proofs.lemmas.Bool.{cases_eq, cases_lt, lt-ltb, le-ltb}
 use Rattle.der_core.specs.declared.fault.DerFault.{DerFault}
-use Rattle.der_core.specs.Element.{length_octets, enc}
+use Rattle.der_core.specs.Element.{AreOctets, length_octets, enc}
 use Rattle.der_core.specs.Head.{head_octets, IsHead, BeginsWith, head_at}
 use Rattle.der_core.proofs.Element.{ok_is}
-use Rattle.der_core.proofs.HeadLemmas.{head_again}
+use Rattle.der_core.proofs.HeadLemmas.{head_again, head_takes}
 use Rattle.package_attrs.specs.Image.{IsOctetString, IsImage}
 use Rattle.content_stream.specs.Wraps.{IsWrap, IsWrapSize}
 
@@ -112,6 +112,43 @@ pub rest_is_image : (content : List ℕ) (skip : ℕ) → IsWrapSize (length con
 rest_is_image content skip is = ⊎_elim
     (λ w. inl (subst (λ (k : ℕ). IsOctetString content (drop k content)) (sym w.2) (wrap_string content w.0 (whole_wrap content w.0 w.1))))
     (λ none. inr (no_string content none.0, ap (λ k. drop k content) none.1)) is
+
+-- octets are an OCTET STRING or none
+has_image : (content : List ℕ) → AreOctets content → (r : Result (ℕ × (ℕ × List ℕ)) DerFault) → head_at content ≡ r
+    → (image : List ℕ) × IsImage content image
+has_image content octets (Ok x) e =
+    let head = head_takes content x octets e in
+    let begins : BeginsWith content x.0 x.1.0 = record { head = head.0; rest = x.1.1; text = head.1 } in
+    let other : ((contents : List ℕ) → IsOctetString content contents
+    → (x.0 ≡ 4) × (length content ≡ length (head_octets 0x04 x.1.0) + x.1.0)) =
+    λ contents is.
+    let same = one_head content 0x04 x.0 (length contents) x.1.0 (string_begins content contents is) begins in
+    (sym same.0, subst (λ (n : ℕ). length content ≡ length (head_octets 0x04 n) + n) same.1 (string_whole content contents is)) in
+    elim (cases_eq x.0 4) [
+      | inr tag ↦ (content, inr (λ contents is. tag (other contents is).0, refl))
+      | inl tag ↦ elim (cases_eq (length content) (length (head_octets 0x04 x.1.0) + x.1.0)) [
+        | inr size ↦ (content, inr (λ contents is. size (other contents is).1, refl))
+        | inl size ↦ (
+          _,
+          inl (wrap_string content x.1.0 (begins_wrap (length content) content x.1.0
+              (subst (λ (t : ℕ). BeginsWith content t x.1.0) tag begins) size)),
+        )
+      ]
+    ]
+has_image content octets (Err fault) e = (
+  content,
+  inr (
+    λ contents is. absurd (ok_is_no_err (sym (head_read content 4 (length contents) (string_begins content contents is)) ∙ e)),
+    refl,
+  ),
+)
+  where
+    ok_is_no_err : {x : ℕ × (ℕ × List ℕ)} → Ok x ≡ Err fault → ⊥
+    ok_is_no_err same = cc
+
+-- so each has an image
+pub image_of_each : (content : List ℕ) → AreOctets content → (image : List ℕ) × IsImage content image
+image_of_each content octets = has_image content octets (head_at content) refl
 
 -- and the only one
 pub image_is_rest : (content image : List ℕ) (skip : ℕ) → IsWrapSize (length content) (take 6 content) skip

@@ -16,7 +16,8 @@
 //!   counted one (`cause`).
 //! - `blocks_for` is how many blocks an image takes.
 //! - Laws: a stream's blocks were free ones of the pool (`blocks_were_free`), and lie in each flash in
-//!   which the pool lies (`blocks_lie_below`).
+//!   which the pool lies (`blocks_lie_below`). Each content has an image, the octets behind its wrap
+//!   (`each_content_has_an_image`: `some`, `rest`, `only`), so `streamed` tells of each.
 //!
 //! Below it stand `block_pool`, `edge_board`, `der_core`, `package_attrs` with what an image is, and
 //! `sha2`. The store of a module and the loader's loop stand above it.
@@ -37,5 +38,5 @@ mod wrap;
 pub use content_stream::{ContentStream, Streamed};
 pub use feeding::{abandon, feed, finish};
 pub use image_blocks::blocks_for;
-pub use laws::{blocks_lie_below, blocks_were_free};
+pub use laws::{blocks_lie_below, blocks_were_free, each_content_has_an_image};
 pub use wrap::image_length;

@@ -14,6 +14,7 @@ pub(crate) fn take_blocks(pool: &mut Pool, n: u32) -> Result<Option<Blocks>, All
 {
     match pool.take(n) {
         Ok(blocks) => {
+            // its contract says that no number stands twice
             let _numbers = blocks.numbers();
             Ok(Some(blocks))
         }

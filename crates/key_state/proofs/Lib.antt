@@ -1,3 +1,4 @@
 pub mod Rows
 pub mod Ascents
+pub mod Joins
 pub mod Events

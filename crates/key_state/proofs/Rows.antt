@@ -82,6 +82,22 @@ use_other (x ∷ xs) (suc i) ne = elim (cases_eq x 255) [
       ∙ use_other xs i (λ e. ne (ap suc e ∙ sym (spent_more x xs is)))
 ]
 
+-- a row that differs at its first unspent leaf alone has no fewer spent
+pub spent_stay : (row next : List ℕ) → Keeps (λ place. place ≡ spent_in row) row next → spent_in row ≤ spent_in next
+spent_stay row next keeps = first_after next (spent_in row) (omega (arith, keeps.size, spent_in_few row))
+    (λ i lt is. before_first row i lt (sym (keeps.each i (λ e. absurd (omega (arith, e, lt)))) ∙ is))
+
+-- and more, where that leaf holds 0
+pub spent_rise : (row next : List ℕ) → Keeps (λ place. place ≡ spent_in row) row next
+    → spent_in row < length row → cell next (spent_in row) ≡ 0 → spent_in row < spent_in next
+spent_rise row next keeps lt blank =
+    let more : spent_in row + 1 ≤ spent_in next = first_after next (spent_in row + 1) (omega (arith, keeps.size, lt))
+    (λ i below is. elim (cases_eq i (spent_in row)) [
+      | inl same ↦ absurd (omega (arith, is, ap (λ (k : ℕ). get_or next k 0) same, blank))
+      | inr other ↦ before_first row i (omega (arith, below, other)) (sym (keeps.each i other) ∙ is)
+    ]) in
+    omega (arith, more)
+
 -- an octet of the row, by its position on the board
 pub row_cell : (leaves i : ℕ) (cells : List ℕ) → i < leaves
     → get_or (row_of leaves cells) i 0 ≡ cell cells (row_start + i)

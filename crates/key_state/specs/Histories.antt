@@ -36,6 +36,27 @@ IsHistory row doubt (fails next ∷ events) =
     FailsTo row next × IsHistory next (doubt ++ spent_in row ∷ []) events
 IsHistory row doubt (cuts next ∷ events) = CutsTo row doubt next × IsHistory next [] events
 
+-- how the row reads after the events
+abbrev pub row_after : List ℕ → List Event → List ℕ
+row_after row [] = row
+row_after row (gives leaf next ∷ events) = row_after next events
+row_after row (fails next ∷ events) = row_after next events
+row_after row (cuts next ∷ events) = row_after next events
+
+-- the doubtful places after them
+abbrev pub doubt_after : List ℕ → List ℕ → List Event → List ℕ
+doubt_after row doubt [] = doubt
+doubt_after row doubt (gives leaf next ∷ events) = doubt_after next [] events
+doubt_after row doubt (fails next ∷ events) =
+    doubt_after next (doubt ++ spent_in row ∷ []) events
+doubt_after row doubt (cuts next ∷ events) = doubt_after next [] events
+
+-- The events are a history that leads from a row and its doubtful places to others.
+pub record Leads (row doubt : List ℕ) (events : List Event) (end end_doubt : List ℕ) : Type 0 where
+  pub history : IsHistory row doubt events
+  pub row_at_end : end ≡ row_after row events
+  pub doubt_at_end : end_doubt ≡ doubt_after row doubt events
+
 -- the leaves that were given, in their order
 abbrev pub leaves_given : List Event → List ℕ
 leaves_given [] = []

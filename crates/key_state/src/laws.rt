@@ -1,11 +1,11 @@
 // Laws over rows and boards, for the layers that make several calls.
-ghost use Rattle.std.specs.Prelude.{◌≡◌, ◌≢◌, ◌↔◌, ℕ, ◌<◌, ◌≤◌, List, length, All, AllPairs};
-ghost use Rattle.edge_board.specs.Board.{IsSettled, Nowhere};
+ghost use Rattle.std.specs.Prelude.{◌≡◌, ◌≢◌, ◌↔◌, ℕ, ◌<◌, ◌≤◌, List, [], ◌++◌, length, All, AllPairs};
+ghost use Rattle.edge_board.specs.Board.{InBlock, IsSettled, Nowhere, cell};
 ghost use Rattle.edge_board.specs.Runs.{Changes, Touches};
 ghost use Rattle.key_state.specs.Row.{spent_in, use_in, IsUsedUp};
 ghost use Rattle.key_state.specs.KeyBlock.{row_of, IsLeafCount, InRow, FirstUnspent};
-ghost use Rattle.key_state.specs.Histories.{Event, IsHistory, leaves_given, IsDoubt};
-ghost use Rattle.key_state.specs.Histories.{IsGift, IsEvent, SparesRow};
+ghost use Rattle.key_state.specs.Histories.{Event, CutsTo, FailsTo, IsHistory, Leads, leaves_given};
+ghost use Rattle.key_state.specs.Histories.{IsDoubt, IsGift, IsEvent, SparesRow};
 
 use edge_board::Board;
 
@@ -15,6 +15,35 @@ use edge_board::Board;
 pub fn no_leaf_is_given_twice()
     ensures ascends { (row doubt : List ℕ) (events : List Event) → IsHistory row doubt events
         → AllPairs (λ earlier later. earlier < later) (leaves_given events) }
+{}
+
+/// A law: two histories of which the second begins where the first ends are one, and what it gives
+/// is what they give, in their order. So the leaves of several runs ascend too.
+pub fn histories_are_joined()
+    ensures joined { (row doubt : List ℕ) (events : List Event) (middle middle_doubt : List ℕ)
+        (later : List Event) (end end_doubt : List ℕ)
+        → Leads row doubt events middle middle_doubt → Leads middle middle_doubt later end end_doubt
+        → Leads row doubt (events ++ later) end end_doubt }
+    ensures given { (events later : List Event)
+        → leaves_given (events ++ later) ≡ leaves_given events ++ leaves_given later }
+{}
+
+/// A law: where at most the first unspent leaf's octet differs, no fewer leaves are spent, and more
+/// are where it holds 00. A power cut where no place is doubtful changes no more than that.
+pub fn spent_leaves_stay_spent()
+    ensures no_fewer { (row next : List ℕ) → FailsTo row next → spent_in row ≤ spent_in next }
+    ensures more { (row next : List ℕ) → FailsTo row next → spent_in row < length row
+        → cell next (spent_in row) ≡ 0 → spent_in row < spent_in next }
+    ensures used { (row : List ℕ) → FailsTo row (use_in row) }
+    ensures cut { (row next : List ℕ) → CutsTo row [] next → FailsTo row next }
+{}
+
+/// A law: the row's first unspent leaf stands in block 17, among the row's octets.
+pub fn first_unspent_is_in_the_row()
+    ensures block { (leaves : ℕ) (cells : List ℕ) (i : ℕ) → IsLeafCount leaves
+        → FirstUnspent leaves cells i → InBlock 17 i }
+    ensures row { (leaves : ℕ) (cells : List ℕ) (i : ℕ) → FirstUnspent leaves cells i
+        → InRow leaves i }
 {}
 
 /// A law: what `spend` leaves is an event of such a history. Where it gives a leaf, its clauses

@@ -14,7 +14,11 @@
 //! - `no_leaf_is_given_twice` is the law over all spends and all power cuts between them and inside
 //!   them. `spend_is_an_event` says that `spend` is what the law speaks of (`gives`, `gives_none`),
 //!   and `other_calls_spare_the_row` that calls which don't write the row are nothing to it
-//!   (`spared`), a `send_all` between two spends among them (`sent`).
+//!   (`spared`), a `send_all` between two spends among them (`sent`). `histories_are_joined` makes
+//!   one history of two (`joined`, `given`).
+//! - `spent_leaves_stay_spent` says that the count of spent leaves never falls, and rises where a
+//!   leaf's octet is 00 (`no_fewer`, `more`), and `first_unspent_is_in_the_row` that a spend stays
+//!   in block 17 (`block`).
 //! - `row_has_a_place_a_leaf` and `used_up_has_no_ff` are laws of the row alone.
 //!
 //! Below it stands `edge_board`. The signing crates above it take a `Leaf` by value.
@@ -28,7 +32,8 @@ mod laws;
 mod spending;
 
 pub use laws::{
-    no_leaf_is_given_twice, other_calls_spare_the_row, row_has_a_place_a_leaf, spend_is_an_event,
+    first_unspent_is_in_the_row, histories_are_joined, no_leaf_is_given_twice,
+    other_calls_spare_the_row, row_has_a_place_a_leaf, spend_is_an_event, spent_leaves_stay_spent,
     used_up_has_no_ff,
 };
 pub use spending::{KEY_BLOCK, Leaf, ROW, SpendFault, spend, spent};
