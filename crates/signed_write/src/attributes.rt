@@ -97,7 +97,8 @@ pub(crate) fn signed_attributes(alloc: Global, parts: &[Vec<u8>]) -> Result<Vec<
         → map (λ part. part.items) parts.now ≡ map attribute_text attributes
         → element.items ≡ signed_attributes_text (in_order attributes)) }
     ensures some { IfOk result (λ element. 1 ≤ length element.items) }
-    ensures most { IfOk result (λ element. length element.items ≤ 30006) }
+    ensures most { IfOk result (λ element. length element.items
+        ≤ length (concat (map (λ part. part.items) parts.now)) + 6) }
 {
     let contents = sorted(alloc, parts)?;
     let mut element = Vec::new(alloc);

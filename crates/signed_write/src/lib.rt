@@ -5,7 +5,8 @@
 //!   (`signed`), how many octets the signature has (`size`), and with each signature of that size the
 //!   text of the message, whole (`text`), in the words of `specs/Written`: for each value that the
 //!   draft's octets say (`IsDraft`). The signed attributes stand in ascending order of their octets,
-//!   in whatever order they come (`specs/Orders`).
+//!   in whatever order they come (`specs/Orders`). How much stands before the signature is bounded
+//!   (`most`).
 //! - `Unsigned` is a text with room for its signature: the octets before it, those that are signed, and
 //!   how many it has. `Unsigned::new` makes one (`parts`).
 //! - `finish` puts the signature of a key with a spent leaf behind the octets (`octets`). It takes no
