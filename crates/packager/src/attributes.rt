@@ -1,11 +1,9 @@
 // Writing the signed attributes of a package.
 ghost use Rattle.std.specs.Prelude.{◌≡◌, ◌++◌, ◌+◌, ◌∷◌, [], ◌≤◌, ◌^◌, OnOk, IfOk, length, map};
 ghost use Rattle.der_core.specs.Attribute.{attribute_text};
-ghost use Rattle.der_core.specs.Element.{enc};
 ghost use Rattle.std.specs.List.{concat};
 ghost use Rattle.attribute_write.specs.Communities.{community_of};
-ghost use Rattle.cms_signed.specs.Cut.{firmware_package};
-ghost use Rattle.package_attrs.specs.AttributeTypes.{content_type, message_digest, firmware_package_id};
+ghost use Rattle.package_attrs.specs.AttributeTypes.{firmware_package_id};
 ghost use Rattle.package_attrs.specs.AttributeTypes.{target_hardware_ids, community_identifiers, firmware_package_info};
 ghost use Rattle.package_attrs.specs.Communities.{communities_text};
 ghost use Rattle.package_attrs.specs.Identifier.{view, identifier_text};
@@ -17,67 +15,12 @@ ghost use Rattle.packager.specs.PlannedMessage.{one_value, value_if, named_commu
 ghost use Rattle.packager.specs.PlannedMessage.{planned_description, described_attributes, planned_content};
 
 use crate::package_plan::PackagePlan;
-use attribute_write::{
-    NamedCommunity, put_attribute, put_communities, put_identifier, put_info, put_targets,
-};
+use attribute_write::{NamedCommunity, put_communities, put_identifier, put_info, put_targets};
 use cms_signed::content_types::FIRMWARE_PACKAGE;
-use der_core::{Oid, tags};
-use der_write::put_tlv;
+use der_core::Oid;
 use package_attrs::{Identifier, PackageName, attribute_types as types};
+use signed_write::{push_attribute, push_content_type, push_message_digest};
 use std::alloc::{AllocError, Global};
-
-// Appends an attribute of this type with this one value to the list of them.
-fn push_attribute(
-    alloc: Global,
-    parts: &mut Vec<Vec<u8>>,
-    kind: &[u8],
-    value: &[u8],
-) -> Result<(), AllocError>
-    requires kind { length kind.now ≤ 64 }
-    requires value { length value.now ≤ 2 ^ 20 }
-    ensures ok { OnOk result (map (λ part. part.items) parts.new.items
-        ≡ map (λ part. part.items) parts.old.items
-        ++ attribute_text (one_value kind.now value.now) ∷ []) }
-    ensures most { OnOk result (length (concat (map (λ part. part.items) parts.new.items))
-        ≤ length (concat (map (λ part. part.items) parts.old.items)) + length value.now + 82) }
-{
-    let mut part = Vec::new(alloc);
-    put_attribute(alloc, &mut part, kind, value)?;
-    parts.push(part)?;
-    Ok(())
-}
-
-// The type of the content (RFC 5652, section 11.1).
-#[tactic(auto, unfolding(der_core::specs::Element::enc, der_core::specs::Element::length_octets))]
-fn push_content_type(alloc: Global, parts: &mut Vec<Vec<u8>>) -> Result<(), AllocError>
-    ensures ok { OnOk result (map (λ part. part.items) parts.new.items
-        ≡ map (λ part. part.items) parts.old.items
-        ++ attribute_text (one_value content_type (enc 0x06 firmware_package)) ∷ []) }
-    ensures most { OnOk result (length (concat (map (λ part. part.items) parts.new.items))
-        ≤ length (concat (map (λ part. part.items) parts.old.items)) + 100) }
-{
-    let mut value = Vec::new(alloc);
-    put_tlv(
-        alloc,
-        &mut value,
-        tags::OBJECT_IDENTIFIER,
-        &FIRMWARE_PACKAGE,
-    )?;
-    push_attribute(alloc, parts, &types::CONTENT_TYPE, &value)
-}
-
-// The digest of the content (RFC 5652, section 11.2).
-fn push_digest(alloc: Global, parts: &mut Vec<Vec<u8>>, digest: &[u8; 32]) -> Result<(), AllocError>
-    ensures ok { OnOk result (map (λ part. part.items) parts.new.items
-        ≡ map (λ part. part.items) parts.old.items
-        ++ attribute_text (one_value message_digest (enc 0x04 digest.now)) ∷ []) }
-    ensures most { OnOk result (length (concat (map (λ part. part.items) parts.new.items))
-        ≤ length (concat (map (λ part. part.items) parts.old.items)) + 120) }
-{
-    let mut value = Vec::new(alloc);
-    put_tlv(alloc, &mut value, tags::OCTET_STRING, digest)?;
-    push_attribute(alloc, parts, &types::MESSAGE_DIGEST, &value)
-}
 
 // The package's identifier (RFC 4108, section 2.2.3).
 fn push_identifier(
@@ -170,8 +113,8 @@ pub(crate) fn parts(
         length (concat (map (λ part. part.items) parts.items)) ≤ 30000) }
 {
     let mut parts = Vec::new(alloc);
-    push_content_type(alloc, &mut parts)?;
-    push_digest(alloc, &mut parts, digest)?;
+    push_content_type(alloc, &mut parts, &FIRMWARE_PACKAGE)?;
+    push_message_digest(alloc, &mut parts, digest)?;
     push_identifier(alloc, &mut parts, &plan.identifier)?;
     push_targets(alloc, &mut parts, &plan.targets)?;
     push_communities(alloc, &mut parts, &plan.communities)?;

@@ -1,5 +1,5 @@
 // The algorithms that are written.
-ghost use Rattle.std.specs.Prelude.{◌≡◌, ◌++◌, ◌+◌, ◌≤◌, false, OnOk, length};
+ghost use Rattle.std.specs.Prelude.{◌≡◌, ◌++◌, ◌+◌, ◌≤◌, false, OnOk, OnErr, length};
 ghost use Rattle.cert_fields.specs.Algorithms.{digest_algorithm, signature_algorithm};
 
 use cert_fields::algorithms::{HSS_LMS, SHA_256};
@@ -11,6 +11,7 @@ use std::alloc::AllocError;
 pub fn put_algorithm(out: &mut Vec<u8>) -> Result<(), AllocError>
     ensures ok { OnOk result (out.new.items ≡ out.old.items ++ signature_algorithm) }
     ensures most { OnOk result (length out.new.items ≤ length out.old.items + 15) }
+    ensures err { OnErr result (out.new.items ≡ out.old.items) }
 {
     out.extend_from_slice(&HSS_LMS)
 }

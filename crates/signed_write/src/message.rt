@@ -1,5 +1,6 @@
 // Writing signed data.
-ghost use Rattle.std.specs.Prelude.{◌≡◌, ◌++◌, ◌+◌, ◌∷◌, ◌≤◌, ◌^◌, false, List, ℕ, OnOk, IfOk, Some, length, drop};
+ghost use Rattle.std.specs.Prelude.{◌≡◌, ◌++◌, ◌+◌, ◌∷◌, ◌≤◌, ◌^◌, false, List, ℕ, OnOk, IfOk, Some, length, map, drop};
+ghost use Rattle.std.specs.List.{concat};
 ghost use Rattle.der_core.specs.Element.{enc};
 ghost use Rattle.der_core.specs.Number.{number_contents};
 ghost use Rattle.cert_fields.specs.Algorithms.{digest_algorithm, signature_algorithm};
@@ -70,7 +71,7 @@ fn middle(
         → middle.items ++ rest ≡ certificates_text certificates.now
         ++ enc 0x31 (enc 0x30 (enc 0x02 (number_contents 3)
         ++ (enc 0x80 signer.now ++ (digest_algorithm false ++ rest))))) }
-    ensures most { IfOk result (λ middle. length middle.items ≤ 2 ^ 26 + 140) }
+    ensures most { IfOk result (λ middle. length middle.items ≤ length certificates.now + 140) }
 {
     let front = signer_front(alloc, signer)?;
     let info = begin_element(alloc, tags::SEQUENCE, &front, later)?;
@@ -207,6 +208,9 @@ pub fn begin_message(
     ensures text { IfOk result (λ unsigned. (w : Written) → IsDraft draft.now w
         → (signature : List ℕ) → length signature ≡ hss_signature_size key.now
         → unsigned.before ++ signature ≡ message_text (written_message w signature)) }
+    ensures most { IfOk result (λ unsigned. length unsigned.before
+        ≤ length draft.now.content.now + length draft.now.certificates.now
+        + length (concat (map (λ part. part.items) draft.now.attributes.now)) + 400) }
 {
     let attributes = signed_attributes(alloc, draft.attributes)?;
     let size = signature_size(key);

@@ -56,3 +56,25 @@ returns-clause-text c =
     (choices_part draft.certificates.now w.certificates is.certificates) is.signer)
     (c.in_ok-behind.ensures.text signature few)
     (c.in_ok-attributes.ensures.ok w.attributes is.attributes)) c.put_together.ensures.before
+
+pub returns-clause-most : goal.returns-clause-most
+returns-clause-most c =
+    let content = c.args.draft.now.content.now in
+    let front = c.deref-2.result.now in
+    let middle = c.deref-3.result.now in
+    let attributes = c.deref-4.result.now in
+    let behind = c.deref-5.result.now in
+    IfOk-weaker c.put_together.result _ _ (λ unsigned before.
+    omega (
+      arith,
+      ap (λ (o : List ℕ). length o) before,
+      sized front content middle attributes behind (length behind) refl,
+      ap (λ (o : List ℕ). length o) c.deref-2.ensures.value,
+      ap (λ (o : List ℕ). length o) c.deref-3.ensures.value,
+      ap (λ (o : List ℕ). length o) c.deref-4.ensures.value,
+      ap (λ (o : List ℕ). length o) c.deref-5.ensures.value,
+      c.in_ok-front.ensures.most,
+      c.in_ok-middle.ensures.most,
+      c.in_ok-attributes.ensures.most,
+      c.in_ok-behind.ensures.most,
+    )) c.put_together.ensures.before

@@ -1,7 +1,7 @@
 use Rattle.std.proofs.Common.{◌≡◌, ◌+◌, ◌++◌, ◌∷◌, [], ℕ, List, length, map, ap, arith, Vec, Global}
 use Rattle.std.specs.List.{concat}
 use Rattle.std.proofs.lemmas.List.{length-append}
-use Rattle.packager.proofs.attributes.push_attribute.Goals as goal
+use Rattle.signed_write.proofs.attributes.push_attribute.Goals as goal
 
 -- a part more
 longer : (parts : List (Vec ℕ Global)) (part : Vec ℕ Global)
