@@ -2,4 +2,5 @@ pub mod CertificatePlan
 pub mod PackagePlan
 pub mod PlannedMessage
 pub mod ReadPlans
+pub mod BoardRuns
 pub mod SigningRuns

@@ -1,6 +1,5 @@
--- What a key board goes through over all its time: runs that each sign with one leaf, and power cuts at any moment of
--- them. No leaf may be used twice (RFC 8554, section 9.2).
-use Rattle.std.specs.Prelude.{◌≡◌, ℕ, ◌+◌, ◌<◌, List, [], ◌∷◌, ◌++◌, length, take}
+-- A run that signs with one leaf, or a power cut at any moment of it.
+use Rattle.std.specs.Prelude.{◌≡◌, ℕ, ◌+◌, ◌<◌, List, [], ◌∷◌, length, take}
 use Rattle.cert_fields.specs.Certificate.{certificate_text}
 use Rattle.cms_signed.specs.Message.{message_text}
 use Rattle.edge_board.specs.Board.{Keeps, cell}
@@ -11,8 +10,6 @@ use Rattle.lms_sign.specs.PublicKeys.{leaf_count}
 use Rattle.packager.specs.CertificatePlan.{CertificatePlan, certificate_by}
 use Rattle.packager.specs.PackagePlan.{PlannedPackage}
 use Rattle.packager.specs.PlannedMessage.{package_by}
-
--- ---- one run
 
 -- What a run signs: a certificate, or a package.
 pub data Output : Type 0 where
@@ -47,21 +44,7 @@ pub record Signs (key : SignKey) (output : Output) (r : SigningRun) : Type 0 whe
   pub leaf : SpendsLeaf (leaf_count key) r
   pub sent : (count : ℕ) × (r.sent ≡ take count (output_text key output (leaf_of (leaf_count key) r)))
 
--- ---- all of them
-
--- Runs of a key one after the other, whatever they sign: the first begins with this image, and each later one with what
--- the run before it left.
-abbrev pub AreRuns : SignKey → List ℕ → List SigningRun → Type 0
-AreRuns key image [] = Unit {0}
-AreRuns key image (r ∷ rs) =
-    (r.start ≡ image) × ((output : Output) × Signs key output r) × AreRuns key r.left rs
-
 -- a leaf with which any octet was sent
 abbrev pub leaf_if : List ℕ → ℕ → List ℕ
 leaf_if [] leaf = []
 leaf_if (octet ∷ octets) leaf = leaf ∷ []
-
--- the leaves with which any octet was sent, in the order of the runs
-abbrev pub leaves_sent : ℕ → List SigningRun → List ℕ
-leaves_sent leaves [] = []
-leaves_sent leaves (r ∷ rs) = leaf_if r.sent (leaf_of leaves r) ++ leaves_sent leaves rs

@@ -1,6 +1,6 @@
 //! Laws of the definitions, which no call computes.
 
-ghost use Rattle.std.specs.Prelude.{◌≡◌, ◌↔◌, ℕ, ◌+◌, ◌<◌, ◌≤◌, ◌^◌, ◌++◌, List, length, true, false, AllPairs};
+ghost use Rattle.std.specs.Prelude.{◌≡◌, ◌↔◌, ℕ, ◌+◌, ◌<◌, ◌≤◌, ◌^◌, ◌++◌, List, length, true, false, flat_map, AllPairs};
 ghost use Rattle.der_core.specs.Asked.{AllHold};
 ghost use Rattle.cert_fields.specs.Certificate.{IsCertificate, certificate_text, signed_text};
 ghost use Rattle.cert_fields.specs.Extensions.{HasExtensions};
@@ -24,7 +24,8 @@ ghost use Rattle.packager.specs.PlannedMessage.{planned_content, planned_attribu
 ghost use Rattle.packager.specs.PlannedMessage.{planned_message};
 ghost use Rattle.packager.specs.ReadPlans.{IsCertificatePlan, SaysPlanned, AllBut};
 ghost use Rattle.signed_write.specs.Unsigned.{Parts};
-ghost use Rattle.packager.specs.SigningRuns.{Certifies, Packs, output_text, SigningRun, AreRuns, leaves_sent};
+ghost use Rattle.packager.specs.SigningRuns.{Certifies, Packs, output_text};
+ghost use Rattle.packager.specs.BoardRuns.{BoardRun, AreBoardRuns, leaf_used};
 
 use cert_fields::one_certificate_text;
 use cms_signed::laws::accepted_items_are_messages;
@@ -106,13 +107,13 @@ pub fn finished_is_the_output()
     signatures_hold();
 }
 
-/// Over all runs that sign with a key's leaves, and all power cuts in them, each leaf with which any
-/// octet was sent has a greater number than those before it. So no two outputs of which any octet was
-/// sent have the same leaf (RFC 8554, section 9.2).
+/// Over all runs on a key's board, whether they sign with its leaves or leave the board as it was, and
+/// all power cuts in them, each leaf with which any octet was sent has a greater number than those
+/// before it. So no two outputs of which any octet was sent have the same leaf (RFC 8554, section 9.2).
 pub fn no_leaf_signs_twice()
-    ensures ascends { (key : SignKey) (image : List ℕ) (runs : List SigningRun)
-        → row_start + leaf_count key ≤ length image → AreRuns key image runs
-        → AllPairs (λ earlier later. earlier < later) (leaves_sent (leaf_count key) runs) }
+    ensures ascends { (key : SignKey) (image : List ℕ) (runs : List BoardRun)
+        → row_start + leaf_count key ≤ length image → AreBoardRuns key image runs
+        → AllPairs (λ earlier later. earlier < later) (flat_map (leaf_used (leaf_count key)) runs) }
 {
     no_leaf_is_given_twice();
 }

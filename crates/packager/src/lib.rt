@@ -17,9 +17,10 @@
 //!   hold under the key's public key and have the size for which there is room (`outputs_are_signed`),
 //!   so `finish` gives the certificate or the package that is signed with its leaf
 //!   (`finished_is_the_output`).
-//! - Over all runs that sign with a key's leaves and all power cuts in them, no two outputs of which
-//!   any octet was sent have the same leaf: the law `no_leaf_signs_twice`, in the words of
-//!   `specs/SigningRuns`.
+//! - Over all runs on a key's board, whether they sign with its leaves (`specs/SigningRuns`) or leave
+//!   the board as it was, whatever they send, and all power cuts in them, no two outputs of which any
+//!   octet was sent have the same leaf: the law `no_leaf_signs_twice`, in the words of
+//!   `specs/BoardRuns`.
 //!
 //! A caller takes the memory with `issue` or `pack`, then spends the leaf, then signs with `finish`,
 //! and then sends.

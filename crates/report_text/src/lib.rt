@@ -9,7 +9,7 @@
 //!   rehearsal's moment, of a package that is accepted, and of a condition that fails (`ok`).
 //! - `push_oid` and `push_hex` append exactly the dotted text of an identifier and the hex of octets
 //!   to a text (`ok`).
-//! - For want of memory, the one refusal of these, a list stays as it was (`err`).
+//! - For want of memory, the one refusal of these, a list or a text stays as it was (`err`).
 //! - `dotted_text_is_of_its_numbers` is the law that an object identifier is printed by the numbers
 //!   that spell it.
 //!

@@ -1,5 +1,5 @@
 // Names of packages, and stale values.
-ghost use Rattle.std.specs.Prelude.{◌≡◌, ◌++◌, string_bytes, OnOk};
+ghost use Rattle.std.specs.Prelude.{◌≡◌, ◌++◌, string_bytes, OnOk, OnErr};
 ghost use Rattle.hex.specs.Hex.{encode_lower};
 ghost use Rattle.report_text.specs.Names.{named, stale_value};
 
@@ -8,10 +8,11 @@ use package_attrs::{PackageName, Stale};
 use std::alloc::{AllocError, Global};
 use std::fmt::Write;
 
-/// Appends octets as lower case hex. For want of memory some of them may have been appended.
+/// Appends octets as lower case hex. For want of memory the text stays as it was.
 pub fn push_hex(alloc: Global, line: &mut String, octets: &[u8]) -> Result<(), AllocError>
     ensures ok { OnOk result
         (string_bytes line.new ≡ string_bytes line.old ++ encode_lower octets.now) }
+    ensures err { OnErr result (string_bytes line.new ≡ string_bytes line.old) }
 {
     let text = hex::encode(alloc, octets)?;
     line.push_str(&text)

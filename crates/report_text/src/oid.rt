@@ -1,5 +1,5 @@
 // Object identifiers in dotted decimal.
-ghost use Rattle.std.specs.Prelude.{◌≡◌, ◌++◌, string_bytes, OnOk};
+ghost use Rattle.std.specs.Prelude.{◌≡◌, ◌++◌, string_bytes, OnOk, OnErr, IfOk};
 ghost use Rattle.der_core.specs.Objects.{dotted, dotted_first};
 ghost use Rattle.report_text.specs.Dotted.{dotted_of};
 
@@ -39,12 +39,23 @@ fn push_numbers(line: &mut String, numbers: &[u128]) -> Result<(), AllocError>
     Ok(())
 }
 
-/// Appends an object identifier, as its numbers with dots between them. For want of memory some of it
-/// may have been appended.
+// An object identifier, as its numbers with dots between them.
+fn text_of(alloc: Global, id: &Oid) -> Result<String, AllocError>
+    ensures text { IfOk result (λ text. string_bytes text ≡ dotted_of id.now) }
+{
+    let numbers = id.subidentifiers(alloc)?;
+    let mut text = String::new(alloc);
+    push_numbers(&mut text, &numbers)?;
+    Ok(text)
+}
+
+/// Appends an object identifier, as its numbers with dots between them. For want of memory the text
+/// stays as it was.
 pub fn push_oid(alloc: Global, line: &mut String, id: &Oid) -> Result<(), AllocError>
     ensures ok { OnOk result
         (string_bytes line.new ≡ string_bytes line.old ++ dotted_of id.now) }
+    ensures err { OnErr result (string_bytes line.new ≡ string_bytes line.old) }
 {
-    let numbers = id.subidentifiers(alloc)?;
-    push_numbers(line, &numbers)
+    let text = text_of(alloc, id)?;
+    line.push_str(&text)
 }
