@@ -38,6 +38,7 @@ mod cells;
 mod event;
 mod failed;
 mod file_board;
+mod flash_file;
 mod mem_board;
 mod mem_source;
 mod octet_queue;
