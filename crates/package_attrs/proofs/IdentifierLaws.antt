@@ -62,13 +62,6 @@ name-front =
     cases (names.Preferred id version) h = inl ((id, version), h, refl)
     cases (names.Legacy octets) h = inr (octets, h, refl)
 
--- a name, and whatever follows
-pub name-and_rest : IsWhole (λ x. name_text x.0 ++ x.1) (λ x. IsName x.0) name_at
-name-and_rest = record {
-  takes = λ bytes x octets e. name-front.takes bytes x octets e;
-  again = λ x h. name-front.again x.0 x.1 h;
-}
-
 pub name_length : (n : PackageName) → IsName n → length (name_text n) ≤ 99
 name_length (names.Preferred id version) h =
     let size = pair_length (id, version) h in

@@ -63,7 +63,7 @@ nothing-whole {V} v = record {
   again = λ w h. rw h refl;
 }
 
-octets-front : IsFront (enc 0x04) HasOneTo64 octets_at
+pub octets-front : IsFront (enc 0x04) HasOneTo64 octets_at
 unfolding octets_at
 octets-front = element-front 0x04 (is_tag 0x04 refl) (λ octets h. omega (arith, h.1)) octets-whole
 

@@ -157,6 +157,18 @@ at_most_one_again kind attrs None laws own h = rw (lacks_missing kind attrs h) r
 at_most_one_again {V} {text} kind attrs (Some v) laws own h =
     rw (has_found kind attrs (text v) own h.1, laws.again v h.0) refl
 
+-- what is read of it is what is said
+pub told : {V : Type 0} {text : V → List ℕ} {IsValid : V → Type 0} {read : Whole V} (kind : List ℕ)
+    (attrs : List Attribute) (result : Option V) → IsWhole text IsValid read → HaveOwnTypes attrs
+    → Answers (λ v. v) result (needed kind read attrs) → IfSome result (λ v. HasOne text IsValid kind attrs v)
+    → (v : V) → (result ≡ Some v) ↔ HasOne text IsValid kind attrs v
+told kind attrs None laws own exact sound v =
+    (λ e. absurd (none-some v e), λ h. sym exact ∙ needed_again kind attrs v laws own h)
+told {V} {text} {IsValid} kind attrs (Some x) laws own exact sound v = (
+  λ e. subst (λ (w : V). HasOne text IsValid kind attrs w) (some_is x v e) sound,
+  λ h. sym exact ∙ needed_again kind attrs v laws own h,
+)
+
 -- ---- the forms of values
 
 pub one_oid-whole : IsWhole (enc 0x06) IsOid one_oid_of

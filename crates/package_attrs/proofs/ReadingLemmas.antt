@@ -1,10 +1,10 @@
 -- From a reading to a text.
-use Rattle.std.proofs.Common.{◌≡◌, ◌<◌, ◌^◌, arith, ℕ, List, length, Option, Some, None, refl, sym}
+use Rattle.std.proofs.Common.{◌≡◌, ◌<◌, ◌^◌, ◌++◌, arith, ℕ, List, length, Option, Some, None, refl, sym}
 use Rattle.std.proofs.Common.{ap, subst, ◌∙◌, inl, inr}
 use Rattle.std.proofs.lemmas.Option.{none-some}
 use Rattle.der_core.specs.Element.{enc}
 use Rattle.der_core.specs.Reads.{Answers}
-use Rattle.der_core.specs.Shapes.{Whole, IsWhole}
+use Rattle.der_core.specs.Shapes.{Front, Whole, IsFront, IsWhole}
 use Rattle.der_core.proofs.Digits.{AreOctets}
 use Rattle.der_core.proofs.Numbers.{some_is}
 use Rattle.der_core.proofs.Shapes.{is_tag, alone-whole, sized-element-front, anything-whole}
@@ -33,6 +33,16 @@ unwrapped octets contents are is = inl (is_octet_string octets contents are is)
 
 pub kept : (octets : List ℕ) → octet_string_of octets ≡ None → IsImage octets octets
 kept octets none = inr (λ contents h. isnt_octet_string octets contents none h, refl)
+
+-- ---- a field at a front
+
+-- a value, and whatever follows
+pub and_rest : {V : Type 0} {text : V → List ℕ} {IsValid : V → Type 0} {read : Front V} → IsFront text IsValid read
+    → IsWhole (λ x. text x.0 ++ x.1) (λ x. IsValid x.0) read
+and_rest laws = record {
+  takes = λ bytes x octets e. laws.takes bytes x octets e;
+  again = λ x h. laws.again x.0 x.1 h;
+}
 
 -- ---- what an answer is
 

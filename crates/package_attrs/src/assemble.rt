@@ -1,61 +1,23 @@
 // Reading a package from its signed attributes.
-ghost use Rattle.std.specs.Prelude.{◌≡◌, ◌↔◌, length, Some, option_map, IfSome};
-ghost use Rattle.der_core.specs.Element.{enc};
-ghost use Rattle.der_core.specs.Objects.{IsOid};
+ghost use Rattle.std.specs.Prelude.{◌≡◌, ◌↔◌, Some, option_map, IfSome};
 ghost use Rattle.der_core.specs.Reads.{Reads, Answers};
 ghost use Rattle.der_core.specs.Time.{time_text, IsTime};
-ghost use Rattle.package_attrs.specs.Attributes.{HaveOwnTypes, HasContentType, HasDigest};
-ghost use Rattle.package_attrs.specs.Attributes.{HasTime, HasIdentifier, HasTargets};
-ghost use Rattle.package_attrs.specs.Attributes.{HasCommunities, HasInfo, Describes};
+ghost use Rattle.package_attrs.specs.Attributes.{HaveOwnTypes, HasTime, HasIdentifier};
+ghost use Rattle.package_attrs.specs.Attributes.{HasTargets, HasCommunities, HasInfo, Describes};
 ghost use Rattle.package_attrs.specs.Description.{Description, description};
 ghost use Rattle.package_attrs.specs.Identifier.{view};
-ghost use Rattle.package_attrs.specs.PackageReading.{one_oid_of, digest_of, one_time_of};
-ghost use Rattle.package_attrs.specs.PackageReading.{content_in, digest_in, identifier_in};
-ghost use Rattle.package_attrs.specs.PackageReading.{time_in, targets_in, communities_in};
-ghost use Rattle.package_attrs.specs.PackageReading.{info_in, package_of};
+ghost use Rattle.package_attrs.specs.PackageReading.{one_time_of, identifier_in, time_in};
+ghost use Rattle.package_attrs.specs.PackageReading.{targets_in, communities_in, info_in};
+ghost use Rattle.package_attrs.specs.PackageReading.{package_of};
 
+use crate::content::{content_in, digest_in};
 use crate::find_attribute::values_of;
-use crate::image::read_octet_string;
-use crate::targets::read_oid_at;
 use crate::{
     Communities, Dependencies, Identifier, Info, Package, Targets, attribute_types as types,
     read_communities, read_identifier, read_info, read_targets,
 };
 use attribute_set::Attributes;
-use der_core::{Cursor, Oid, Time};
-
-#[tactic(auto, unfolding(crate::specs::PackageReading::one_oid_of))]
-fn one_oid(values: &[u8]) -> Option<Oid>
-    ensures { Answers (λ id. id) result (one_oid_of values.now) }
-{
-    let mut items = Cursor::new(values);
-    let id = read_oid_at(&mut items)?;
-    if items.at_end() { Some(id) } else { None }
-}
-
-// The identifier, where the octets are exactly one.
-fn read_one_oid(values: &[u8]) -> Option<Oid>
-    ensures spelled { Reads (enc 0x06) IsOid values.now result }
-    ensures exact { Answers (λ id. id) result (one_oid_of values.now) }
-{
-    one_oid(values)
-}
-
-#[tactic(auto, unfolding(crate::specs::PackageReading::digest_of))]
-fn digest(values: &[u8]) -> Option<[u8; 32]>
-    ensures { Answers (λ digest. digest) result (digest_of values.now) }
-{
-    let digest = read_octet_string(values)?;
-    Some(*digest.as_array::<32>()?)
-}
-
-// The octets of one OCTET STRING, where they are 32.
-fn read_digest(values: &[u8]) -> Option<[u8; 32]>
-    ensures spelled { Reads (enc 0x04) (λ digest. length digest ≡ 32) values.now result }
-    ensures exact { Answers (λ digest. digest) result (digest_of values.now) }
-{
-    digest(values)
-}
+use der_core::{Cursor, Time};
 
 #[tactic(auto, unfolding(crate::specs::PackageReading::one_time_of, der_core::specs::TimeReading::time_at))]
 fn one_time(values: &[u8]) -> Option<Time>
@@ -73,22 +35,6 @@ fn read_one_time(values: &[u8]) -> Option<Time>
     ensures exact { Answers (λ time. time) result (one_time_of values.now) }
 {
     one_time(values)
-}
-
-#[tactic(auto, unfolding(crate::specs::PackageReading::content_in))]
-fn content_in(attrs: &Attributes<'_>) -> Option<Oid>
-    ensures exact { Answers (λ id. id) result (content_in attrs.now) }
-    ensures sound { IfSome result (λ id. HasContentType attrs.now id) }
-{
-    read_one_oid(values_of(attrs, &types::CONTENT_TYPE)?)
-}
-
-#[tactic(auto, unfolding(crate::specs::PackageReading::digest_in))]
-fn digest_in(attrs: &Attributes<'_>) -> Option<[u8; 32]>
-    ensures exact { Answers (λ digest. digest) result (digest_in attrs.now) }
-    ensures sound { IfSome result (λ digest. HasDigest attrs.now digest) }
-{
-    read_digest(values_of(attrs, &types::MESSAGE_DIGEST)?)
 }
 
 #[tactic(auto, unfolding(crate::specs::PackageReading::identifier_in))]

@@ -4,13 +4,16 @@
 //! - `read_identifier`, `read_targets`, `read_communities` and `read_info` answer exactly where the
 //!   octets, all of them, are the text of an identifier, of hardware types, of communities, or of a
 //!   package's type and dependencies, and their value is the one that the octets spell (`spelled`).
-//!   `read_name` does so for the name at the front of octets, whatever follows (`spelled`).
+//!   `read_name`, `read_oid_at` and `read_octets_at` do so for the name, the identifier, or the 1 to
+//!   64 octets at the front, whatever follows (`spelled`).
 //! - `Targets`, `Communities`, `SerialEntries` and `Dependencies` stay in place as the octets that
 //!   were read, and are seen as the lists that these spell. Each is an iterator that reads the next
 //!   value when it is asked for (`next_gives`: `YieldsFirst`), so going through one takes time
 //!   linear in its octets. `Names` is a list of names in memory of its own.
 //! - `read_package` answers the package that attributes describe, and none where they describe none
 //!   (`described`). What they must hold for that is said in `specs/Attributes`.
+//! - `read_content_type` and `read_message_digest` answer what attributes say of any content, which
+//!   need not be a package (`told`).
 //! - `identifier_covers` and `targets_cover` tell whether a value that an authority lists covers
 //!   another (`covers`); `covers_are_told` is the law that their tests do (`identifiers`,
 //!   `targets`).
@@ -25,7 +28,7 @@
 //! No call takes memory but `Dependencies::to_names` and what clones `Names`: what a stranger sends
 //! costs its own octets alone.
 //!
-//! Each reader of octets, and `read_package`, has one more clause, `exact`: its answer is what a
+//! Each reader of octets or of attributes has one more clause, `exact`: its answer is what a
 //! function of `specs/Reading`, `specs/SerialReading`, `specs/ListReading` or
 //! `specs/PackageReading` gives. Who reads contracts can pass over it.
 //!
@@ -43,8 +46,10 @@
 mod assemble;
 pub mod attribute_types;
 mod community;
+mod content;
 mod covers;
 mod dependencies;
+mod fields;
 mod find_attribute;
 mod identifier;
 mod image;
@@ -59,8 +64,10 @@ mod targets;
 
 pub use assemble::read_package;
 pub use community::{Communities, Community, SerialEntries, SerialEntry};
+pub use content::{read_content_type, read_message_digest};
 pub use covers::{covers_are_told, identifier_covers, targets_cover};
 pub use dependencies::{Dependencies, MOST_DEPENDENCIES};
+pub use fields::{read_octets_at, read_oid_at};
 pub use identifier::Identifier;
 pub use image::image_of;
 pub use information::read_info;

@@ -4,8 +4,9 @@ ghost use Rattle.der_core.specs.Element.{AreOctets};
 ghost use Rattle.der_core.specs.Reads.{Reads, Answers};
 ghost use Rattle.package_attrs.specs.declared.name.PackageName.{PackageName};
 ghost use Rattle.package_attrs.specs.Identifier.{name_text, IsName};
-ghost use Rattle.package_attrs.specs.Reading.{pair_of, octets_at, name_at, stale_at};
+ghost use Rattle.package_attrs.specs.Reading.{pair_of, name_at, stale_at};
 
+use crate::fields::read_octets_at;
 use der_core::{Cursor, Octets64, Oid, read_oid, read_u128, tags};
 
 /// What a package is called (RFC 4108, section 2.2.3).
@@ -41,14 +42,6 @@ fn read_preferred(parts: &[u8]) -> Option<(Oid, u128)>
     }
 }
 
-// The 1 to 64 octets at the front.
-#[tactic(auto, unfolding(crate::specs::Reading::octets_at))]
-pub(crate) fn read_octets(fields: &mut Cursor<'_>) -> Option<Octets64>
-    ensures exact { Answers (λ octets. (octets, fields.new)) result (octets_at fields.old) }
-{
-    Octets64::some(fields.tagged(tags::OCTET_STRING)?)
-}
-
 #[tactic(auto, unfolding(crate::specs::Reading::name_at, crate::specs::Reading::octets_at))]
 fn read_front(fields: &mut Cursor<'_>) -> Option<PackageName>
     ensures exact { Answers (λ name. (name, fields.new)) result (name_at fields.old) }
@@ -57,7 +50,7 @@ fn read_front(fields: &mut Cursor<'_>) -> Option<PackageName>
         let (id, version) = read_preferred(fields.tagged(tags::SEQUENCE)?)?;
         Some(PackageName::Preferred { id, version })
     } else {
-        Some(PackageName::Legacy(read_octets(fields)?))
+        Some(PackageName::Legacy(read_octets_at(fields)?))
     }
 }
 
@@ -80,6 +73,6 @@ pub(crate) fn read_stale(fields: &mut Cursor<'_>) -> Option<Stale>
     if fields.is_at(tags::INTEGER) {
         Some(Stale::Upto(read_u128(fields.tagged(tags::INTEGER)?)?))
     } else {
-        Some(Stale::Legacy(read_octets(fields)?))
+        Some(Stale::Legacy(read_octets_at(fields)?))
     }
 }

@@ -6,8 +6,7 @@ ghost use Rattle.package_attrs.specs.Communities.{communities_text, AreCommuniti
 ghost use Rattle.package_attrs.specs.ListReading.{modules_of, community_at, communities_of};
 ghost use Rattle.package_attrs.specs.SerialReading.{block_of, serial_entry_at};
 
-use crate::name::read_octets;
-use crate::targets::read_oid_at;
+use crate::fields::{read_octets_at, read_oid_at};
 use crate::{Communities, Community, SerialEntries, SerialEntry};
 use der_core::{Cursor, Octets64, Oid, read_oid, tags};
 
@@ -17,8 +16,8 @@ fn read_block(ends: &[u8]) -> Option<(Octets64, Octets64)>
     ensures exact { Answers (λ ends. ends) result (block_of ends.now) }
 {
     let mut ends = Cursor::new(ends);
-    let low = read_octets(&mut ends)?;
-    let high = read_octets(&mut ends)?;
+    let low = read_octets_at(&mut ends)?;
+    let high = read_octets_at(&mut ends)?;
     if ends.at_end() {
         Some((low, high))
     } else {

@@ -7,7 +7,8 @@ ghost use Rattle.package_attrs.specs.ListReading.{targets_of};
 ghost use Rattle.package_attrs.specs.Targets.{targets_text, AreTargets};
 ghost use Rattle.package_attrs.specs.Reading.{oid_at};
 
-use der_core::{Cursor, Oid, read_oid, tags};
+use crate::fields::read_oid_at;
+use der_core::{Cursor, Oid, tags};
 use std::marker::Model;
 
 /// Hardware types in their order, each read from its octets when it is asked for. Takes no memory.
@@ -52,14 +53,6 @@ impl<'a> Iterator for Targets<'a> {
         self.octets = items.rest();
         Some(target)
     }
-}
-
-// The identifier at the front.
-#[tactic(auto, unfolding(crate::specs::Reading::oid_at))]
-pub(crate) fn read_oid_at(items: &mut Cursor<'_>) -> Option<Oid>
-    ensures exact { Answers (λ id. (id, items.new)) result (oid_at items.old) }
-{
-    read_oid(items.tagged(tags::OBJECT_IDENTIFIER)?)
 }
 
 // Whether the octets are identifiers, one after the other.

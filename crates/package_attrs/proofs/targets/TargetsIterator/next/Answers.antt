@@ -13,14 +13,14 @@ returns-in_err-target-clause-steps c =
 
 pub invariant_of-self : goal.invariant_of-self
 invariant_of-self c =
-    (passed oid_at c.self.inside.octets.now c.new-items.result c.read_oid_at.new.items c.rest-self-inside.result.now
+    (passed oid_at c.self.inside.octets.now c.new-items.result c.read_oid_at.new.fields c.rest-self-inside.result.now
     c.in_ok-target.target oid_falls c.self.invariant c.new-items.ensures.all c.in_ok-target.ensures.exact
     c.rest-self-inside.ensures.rest).0
 
 pub returns-clause-steps : goal.returns-clause-steps
 returns-clause-steps c =
     sym c.self.view_is
-    ∙ (passed oid_at c.self.inside.octets.now c.new-items.result c.read_oid_at.new.items c.rest-self-inside.result.now
+    ∙ (passed oid_at c.self.inside.octets.now c.new-items.result c.read_oid_at.new.fields c.rest-self-inside.result.now
     c.in_ok-target.target oid_falls c.self.invariant c.new-items.ensures.all c.in_ok-target.ensures.exact
     c.rest-self-inside.ensures.rest).1
 

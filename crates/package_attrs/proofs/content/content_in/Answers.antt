@@ -2,7 +2,7 @@ use Rattle.der_core.specs.Element.{enc}
 use Rattle.der_core.specs.Objects.{IsOid}
 use Rattle.package_attrs.specs.AttributeTypes.{content_type}
 use Rattle.package_attrs.proofs.PackageLaws.{sound_one}
-use Rattle.package_attrs.proofs.assemble.content_in.Goals as goal
+use Rattle.package_attrs.proofs.content.content_in.Goals as goal
 
 pub returns-clause-sound : goal.returns-clause-sound
 returns-clause-sound c =

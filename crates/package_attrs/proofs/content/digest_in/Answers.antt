@@ -2,7 +2,7 @@ use Rattle.std.proofs.Common.{length, ◌≡◌}
 use Rattle.der_core.specs.Element.{enc}
 use Rattle.package_attrs.specs.AttributeTypes.{message_digest}
 use Rattle.package_attrs.proofs.PackageLaws.{sound_one}
-use Rattle.package_attrs.proofs.assemble.digest_in.Goals as goal
+use Rattle.package_attrs.proofs.content.digest_in.Goals as goal
 
 pub returns-clause-sound : goal.returns-clause-sound
 returns-clause-sound c =
