@@ -42,6 +42,9 @@ pub fn images_stand_apart()
     ensures measured { (f : List ℕ → ℕ) (offer : Offer) (digest image : List ℕ)
         (state : State (List ℕ)) → state_with f (with_package offer digest image state)
         ≡ with_package offer digest (f image) (state_with f state) }
+    ensures stored { (f : Stored → ℕ) (offer : Offer) (digest : List ℕ) (image : Stored)
+        (state : State Stored) → state_with f (with_package offer digest image state)
+        ≡ with_package offer digest (f image) (state_with f state) }
 {}
 
 /// A law: a package that isn't installed goes last, and so does a stale entry whose identifier or

@@ -1,1 +1,2 @@
 mod LevelLemmas
+mod KeyLemmas

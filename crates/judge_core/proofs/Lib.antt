@@ -11,3 +11,6 @@ pub mod PackageLemmas
 pub mod OneVerdict
 pub mod SizeLemmas
 pub mod RehearsalLemmas
+pub mod AllVerdicts
+pub mod RefusalLemmas
+pub mod InstallLemmas

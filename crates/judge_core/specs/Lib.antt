@@ -2,6 +2,7 @@ pub mod Values
 pub mod Conditions
 pub mod Verdicts
 pub mod Views
+pub mod Installing
 pub mod Steps
 pub mod Rehearsal
 pub mod Granted

@@ -9,7 +9,7 @@ ghost use Rattle.judge_core.specs.Views.{gap_of, JudgesCut, AcceptsCut};
 
 use crate::content::Content;
 use crate::package::judge_view;
-use crate::size::first_of_size;
+use crate::size::first_size_failure;
 use crate::{Cut, CutVerdict, Verdict, accepted_is_admitted, judge};
 use cms_signed::laws::one_message;
 use cms_signed::{SignedFault, read_signed_cut};
@@ -103,7 +103,7 @@ fn judge_frame<'a>(
         (JudgesCut (bench owner.now state.now sequence at) frame.now (Some cut)) }
 {
     one_message();
-    if let Some(failing) = first_of_size(frame, cut.length) {
+    if let Some(failing) = first_size_failure(frame, cut.length) {
         return Ok(CutVerdict::Refuse(failing, None));
     }
     let view = match read_signed_cut(alloc, frame, Some((cut.place, cut.length))) {

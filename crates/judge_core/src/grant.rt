@@ -18,7 +18,7 @@ ghost use Rattle.judge_core.specs.Steps.{IsFailure};
 use crate::content::known_of;
 use crate::fault::Fault;
 use crate::find::find;
-use crate::size::first_of_size;
+use crate::size::first_size_failure;
 use cert_fields::KeptCert;
 use cms_signed::laws::one_message;
 use cms_signed::{SignedFault, SignedView, read_signed};
@@ -63,7 +63,7 @@ pub fn path_grant<'a>(
     ensures told { IfOk result (IsTold (Grants owner.now item.now)) }
 {
     one_message();
-    if first_of_size(item, 0).is_some() {
+    if first_size_failure(item, 0).is_some() {
         return Ok(None);
     }
     match read_signed(alloc, item) {

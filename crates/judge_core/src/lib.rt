@@ -15,6 +15,10 @@
 //!   40 (`judged`).
 //! - Laws: octets spell one package at most (`one_value_each`), so an item has one verdict at most
 //!   (`one_verdict_each`), and it accepts exactly where the item is admitted (`accepted_is_admitted`).
+//!   No item is without one (`no_item_is_without_a_verdict`). A refusal has a name exactly from
+//!   condition 20 on (`refusals_have_their_names`). Items that nobody keeps have a verdict by their
+//!   heads (`unread_items_are_refused`, conditions 1 and 2), which `first_size_failure` asks (`told`).
+//!   What an accepted package brings can be installed (`accepted_packages_can_be_installed`).
 //!
 //! What is to be believed stands in `specs/Values` (what an item spells), `specs/Conditions` (the 41
 //! conditions, in four lists put together from those of the crates below) and `specs/Verdicts`
@@ -42,6 +46,7 @@ mod fault;
 mod find;
 mod frame;
 mod grant;
+mod item_laws;
 mod laws;
 mod package;
 mod rehearse;
@@ -53,7 +58,12 @@ mod whole;
 
 pub use frame::judge_cut;
 pub use grant::{PathGrant, path_grant};
+pub use item_laws::{
+    accepted_packages_can_be_installed, no_item_is_without_a_verdict, refusals_have_their_names,
+    unread_items_are_refused,
+};
 pub use laws::{accepted_is_admitted, one_value_each, one_verdict_each};
 pub use rehearse::{Rehearsed, rehearse_step};
+pub use size::{MOST_CONTENTS, first_size_failure};
 pub use verdict::{Cut, CutVerdict, Verdict};
 pub use whole::judge;

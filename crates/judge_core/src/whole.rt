@@ -7,7 +7,7 @@ ghost use Rattle.judge_core.specs.Views.{verdict_view};
 
 use crate::content::known_of;
 use crate::package::judge_view;
-use crate::size::first_of_size;
+use crate::size::first_size_failure;
 use crate::{CutVerdict, Verdict, accepted_is_admitted};
 use cms_signed::laws::one_message;
 use cms_signed::{SignedFault, read_signed};
@@ -55,7 +55,7 @@ fn judge_item<'a>(
         Judges (bench owner.now state.now sequence at) item.now (verdict_view verdict)) }
 {
     one_message();
-    if let Some(failing) = first_of_size(item, 0) {
+    if let Some(failing) = first_size_failure(item, 0) {
         return Ok(Verdict::Refuse(failing, None));
     }
     let view = match read_signed(alloc, item) {

@@ -6,3 +6,6 @@ returns-clause-read c = with_package-state_with
 
 pub returns-clause-measured : goal.returns-clause-measured
 returns-clause-measured c = with_package-state_with
+
+pub returns-clause-stored : goal.returns-clause-stored
+returns-clause-stored c = with_package-state_with

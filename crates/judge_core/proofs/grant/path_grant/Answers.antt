@@ -79,8 +79,8 @@ module _ (owner : Module) (item : List ℕ) (sizes : AllHold (size_conditions it
 pub returns-then-is_some : goal.returns-then-is_some
 returns-then-is_some c = record {
   told = λ other g.
-      tells_some (size_conditions c.args.item.now) c.first_of_size.result (sym c.is_some.ensures ∙ c.if-is_some.true)
-      (c.first_of_size.ensures.told c.args.item.now (like_itself c.args.item.now)) (sizes_of c.args.item.now g.octets);
+      tells_some (size_conditions c.args.item.now) c.first_size_failure.result (sym c.is_some.ensures ∙ c.if-is_some.true)
+      (c.first_size_failure.ensures.told c.args.item.now (like_itself c.args.item.now)) (sizes_of c.args.item.now g.octets);
 }
 
 pub returns-in-Ok : goal.returns-in-Ok
@@ -90,8 +90,8 @@ returns-in-Ok c = record {
       let owner = c.args.owner.now in
       let read = c.in-Ok.ensures.answer.1 in
       let m = read.message in
-      let sizes = tells_none (size_conditions item) c.first_of_size.result (sym c.is_some.ensures ∙ c.if-is_some.false)
-      (c.first_of_size.ensures.told item (like_itself item)) in
+      let sizes = tells_none (size_conditions item) c.first_size_failure.result (sym c.is_some.ensures ∙ c.if-is_some.false)
+      (c.first_size_failure.ensures.told item (like_itself item)) in
       if_ok (λ told. (k : Message) → Shows c.in-Ok.view k.certificates k.signer → k.content ≡ c.in-Ok.view.content.now
       → IsTold (GrantsMessage owner k) told)
       (IsTold (Grants owner item)) c.grant_of_view.result
