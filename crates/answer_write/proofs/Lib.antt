@@ -1,0 +1,2 @@
+pub mod SignatureSizes
+pub mod Signing
