@@ -2,7 +2,7 @@
 use Rattle.std.proofs.Common.{◌≡◌, inl, inr, ⊎_elim, ℕ, ◌+◌, ◌*◌, List, Option, Some, sym, ap, subst, arith}
 use Rattle.edge_board.specs.Board.{View, Keeps, InBlock, IsSettled}
 use Rattle.edge_board.specs.Runs.{LeavesOnly, Touches, Spares}
-use Rattle.edge_board.proofs.RunLemmas.{keeps_wider, keeps_then, goes_on}
+use Rattle.edge_board.proofs.RunLemmas.{keeps_wider, keeps_then, goes_on, leaves_both, leaves_weaker}
 use Rattle.bank_gate.specs.States.{IsOpen, IsOpened, IsSealed, Stands}
 use Rattle.bank_layout.specs.declared.bank.Bank.{Bank}
 use Rattle.bank_layout.specs.Layout.{gate_block, manifest_start, place_of, manifest_octets, InBank}
@@ -16,24 +16,6 @@ use Rattle.bank_layout.proofs.Parts.{kept_part}
 use Rattle.bank_layout.proofs.Recovering.{as_before, old_or_new, once_open}
 use Rattle.bank_layout.proofs.Sizes.{manifest_stands}
 
--- what holds of both
-both_leave : (a b : View) (P Q : List ℕ → List ℕ → Type 0) → LeavesOnly a b P → LeavesOnly a b Q
-    → LeavesOnly a b (λ image s. P image s × Q image s)
-both_leave a b P Q p q = record {
-  later = p.later;
-  each = λ image s left. (p.each image s left, q.each image s left);
-  before = λ t image s le left. ⊎_elim inl
-      (λ x. ⊎_elim inl (λ y. inr (x, y)) (q.before t image s le left)) (p.before t image s le left);
-}
-
-weaker : (a b : View) (P Q : List ℕ → List ℕ → Type 0) → LeavesOnly a b P
-    → ((image s : List ℕ) → P image s → Q image s) → LeavesOnly a b Q
-weaker a b P Q p to = record {
-  later = p.later;
-  each = λ image s left. to image s (p.each image s left);
-  before = λ t image s le left. ⊎_elim inl (λ x. inr (to image s x)) (p.before t image s le left);
-}
-
 module _ (told : Type 0) (yes : told) (m : Module) (running : Option Bank) (manifest : Manifest) (old mid : View)
     (holds : HoldsModule old.cells m running manifest) (settled : IsSettled old)
     (wrote : Touches told (InBank (spare running)) old mid)
@@ -45,11 +27,11 @@ module _ (told : Type 0) (yes : told) (m : Module) (running : Option Bank) (mani
   -- while the body is written
   pub begun_moments : LeavesOnly old mid (λ image s.
       Recovers image (module_board m (standing_of m manifest old.cells)) × old.sent s)
-  begun_moments = weaker old mid
+  begun_moments = leaves_weaker old mid
       (λ image s. Spares (InBank (spare running)) old image s
       × (IsOpen (place_of (spare running)) image → image ≡ old.cells))
       (λ image s. Recovers image (module_board m (standing_of m manifest old.cells)) × old.sent s)
-      (both_leave old mid (Spares (InBank (spare running)) old)
+      (leaves_both old mid (Spares (InBank (spare running)) old)
       (λ image s. IsOpen (place_of (spare running)) image → image ≡ old.cells) (wrote.images yes) shut)
       (λ image s both.
       let same = as_before old.cells image m running manifest holds (inside image s both.0)
@@ -82,9 +64,9 @@ module _ (told : Type 0) (yes : told) (m : Module) (running : Option Bank) (mani
     -- in all of it
     pub install_moments : LeavesOnly old new Moment
     install_moments = goes_on old mid new Moment Moment
-        (weaker old mid (λ image s. Recovers image (module_board m (standing_of m manifest old.cells)) × old.sent s)
+        (leaves_weaker old mid (λ image s. Recovers image (module_board m (standing_of m manifest old.cells)) × old.sent s)
         Moment begun_moments (λ image s was. (inl was.0, was.1)))
-        (weaker mid new (Spares (InBlock (gate_block (spare running))) mid) Moment (switched.images yes)
+        (leaves_weaker mid new (Spares (InBlock (gate_block (spare running))) mid) Moment (switched.images yes)
         (λ image s spares.
         let keeps : Keeps (InBlock (gate_block (spare running))) mid.cells image =
         keeps_wider mid.cells image (λ i. ⊎_elim (λ f. f) (λ p. absurd (sealed.settled i p))) spares.0 in (

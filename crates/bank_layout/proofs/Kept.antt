@@ -92,3 +92,12 @@ blocks_counted (e ∷ es) v = omega (
   length-append e.image.blocks (blocks_in es),
   sum_by-cons (λ (entry : Entry Stored). blocks_for entry.image.length) e es,
 )
+
+-- and so it is after a package was placed
+pub placed_counted : (capacity : ℕ) (offer : Offer) (digest : List ℕ) (stored : Stored) (state : State Stored)
+    → IsKept capacity state → IsEntry (entry_for offer digest stored)
+    → length (blocks_in (placed (entry_for offer digest stored) state.packages))
+    ≡ sum_by (λ (entry : Entry Stored). blocks_for entry.image.length) (placed (entry_for offer digest stored) state.packages)
+placed_counted capacity offer digest stored state kept new =
+    blocks_counted (placed (entry_for offer digest stored) state.packages)
+    (entries_placed (entry_for offer digest stored) state.packages new kept.entries)

@@ -5,6 +5,8 @@ use Rattle.edge_board.specs.Board.{View, InBlock, IsSettled}
 use Rattle.edge_board.specs.Runs.{LeavesOnly, Touches}
 use Rattle.bank_gate.specs.States.{IsOpen, IsSealed, Stands}
 use Rattle.block_pool.specs.Numbers.{IsApart}
+use Rattle.key_state.specs.KeyBlock.{row_of}
+use Rattle.lms_sign.specs.PublicKeys.{leaf_count}
 use Rattle.package_attrs.specs.Identifier.{IsName}
 use Rattle.module_record.specs.declared.module.Module.{Module}
 use Rattle.config_table.specs.State.{State, Offer, entry_for, last_stale, with_package}
@@ -40,6 +42,12 @@ spare (Some bank) = other bank
 abbrev pub LooksAs : List ℕ → List ℕ → Module → Option Bank → Manifest → Type 0
 LooksAs a b m running manifest =
     HoldsModule b m running manifest × (standing_of m manifest b ≡ standing_of m manifest a)
+
+-- the same, but that the row may read otherwise
+abbrev pub LooksAsButRow : List ℕ → List ℕ → Module → Option Bank → Manifest → Type 0
+LooksAsButRow a b m running manifest =
+    HoldsModule b m running manifest
+    × (standing_of m manifest b ≡ record (standing_of m manifest a) { row = row_of (leaf_count m.key) b })
 
 -- b recovers to what stood on a, or to what this manifest makes of a
 abbrev pub OldOrNew : List ℕ → List ℕ → Module → Manifest → Manifest → Type 0

@@ -9,22 +9,23 @@ ghost use Rattle.bank_gate.specs.Places.{IsPlace};
 ghost use Rattle.bank_gate.specs.States.{IsOpen, IsOpened, Stands};
 ghost use Rattle.block_pool.specs.Numbers.{IsApart};
 ghost use Rattle.content_stream.specs.ImageBlocks.{blocks_for};
-ghost use Rattle.key_state.specs.KeyBlock.{row_of, row_start};
+ghost use Rattle.key_state.specs.KeyBlock.{FirstUnspent, IsLeafCount, row_start};
 ghost use Rattle.lms_sign.specs.PublicKeys.{leaf_count};
 ghost use Rattle.module_record.specs.ModuleRecord.{IsModule, module_text};
 ghost use Rattle.module_record.specs.declared.module.Module.{Module};
-ghost use Rattle.config_table.specs.State.{Entry, Offer, State, placed, state_with, with_package, after_package, empty_state};
+ghost use Rattle.config_table.specs.State.{Entry, Offer, State, entry_for, placed, state_with, with_package, after_package, empty_state};
 ghost use Rattle.config_table.specs.Stored.{Stored};
 ghost use Rattle.bank_layout.specs.declared.bank.Bank.{Bank};
 ghost use Rattle.bank_layout.specs.declared.format.Format.{Format};
 ghost use Rattle.bank_layout.specs.declared.format.Format.TheVariants.{Two};
 ghost use Rattle.bank_layout.specs.Layout.{InBank, board_size, factory, gate_block, manifest_octets, manifest_start, place_of};
-ghost use Rattle.bank_layout.specs.Manifest.{BeginsWithManifest, IsEntry, IsKept, IsManifest, Manifest, blocks_in, manifest_contents, manifest_text};
+ghost use Rattle.bank_layout.specs.Manifest.{BeginsWithManifest, IsEntry, IsKept, IsManifest, Manifest, blocks_in, manifest_contents, manifest_text, named_blocks};
 ghost use Rattle.bank_layout.specs.Recovery.{Holder, HoldsModule, IsOver, Recovers, Standing, image_octets, standing_of};
 ghost use Rattle.bank_layout.specs.Recovery.Holder.{module_board};
-ghost use Rattle.bank_layout.specs.Changes.{Installs, IsNew, IsUnnamed, IsUnnamedIn, LooksAs, OldOrNew, spare};
+ghost use Rattle.bank_layout.specs.Changes.{Installs, IsNew, IsUnnamed, IsUnnamedIn, LooksAs, LooksAsButRow, OldOrNew, spare};
 
 use edge_board::Board;
+use key_state::first_unspent_is_in_the_row;
 use module_record::{one_key_record_each, one_module_record_each, records_tell_their_kind};
 
 // ---- one reading of an image
@@ -88,9 +89,25 @@ pub fn unnamed_blocks_have_no_say()
 pub fn rows_stand_apart()
     ensures row { (a b : List ℕ) (m : Module) (running : Option Bank) (manifest : Manifest)
         → HoldsModule a m running manifest → Keeps (InBlock 17) a b
-        → HoldsModule b m running manifest × (standing_of m manifest b
-        ≡ record (standing_of m manifest a) { row = row_of (leaf_count m.key) b }) }
+        → LooksAsButRow a b m running manifest }
 {}
+
+/// A law: a spend changes the row alone, at each moment of it.
+pub fn spends_change_the_row_alone<B: Board>()
+    ensures now { B.tells_cells → (old new : B) (leaves : ℕ) (m : Module) (running : Option Bank)
+        (manifest : Manifest) → IsLeafCount leaves → HoldsModule (B.view old).cells m running manifest
+        → Touches B.tells_cells (FirstUnspent leaves (B.view old).cells) (B.view old) (B.view new)
+        → LooksAsButRow (B.view old).cells (B.view new).cells m running manifest }
+    ensures moments { B.tells_cells → (old new : B) (leaves : ℕ) (m : Module)
+        (running : Option Bank) (manifest : Manifest) → IsLeafCount leaves
+        → HoldsModule (B.view old).cells m running manifest → IsSettled (B.view old)
+        → Touches B.tells_cells (FirstUnspent leaves (B.view old).cells) (B.view old) (B.view new)
+        → LeavesOnly (B.view old) (B.view new)
+        (λ image s. LooksAsButRow (B.view old).cells image m running manifest
+        × (B.view old).sent s) }
+{
+    first_unspent_is_in_the_row();
+}
 
 /// A law: while the spare's gate is closed, and while it isn't open, what changes in the spare has
 /// no say.
@@ -186,7 +203,7 @@ pub fn blocks_stay_apart()
 {}
 
 /// A law: what an install makes of a state that can be kept can be kept. As many blocks are named
-/// as the images' lengths ask for, and both banks are places.
+/// as the images' lengths ask for, also where it isn't known yet that they fit. Both banks are places.
 pub fn installed_states_are_kept()
     ensures kept { (capacity : ℕ) (offer : Offer) (digest : List ℕ) (stored : Stored)
         (state : State Stored) → IsKept capacity state
@@ -195,6 +212,11 @@ pub fn installed_states_are_kept()
     ensures counted { (packages : List (Entry Stored)) → AllByRecursion IsEntry packages
         → length (blocks_in packages)
         ≡ sum_by (λ entry. blocks_for entry.image.length) packages }
+    ensures asked { (capacity : ℕ) (offer : Offer) (digest : List ℕ) (stored : Stored)
+        (state : State Stored) → IsKept capacity state → IsEntry (entry_for offer digest stored)
+        → length (named_blocks (with_package offer digest stored state))
+        ≡ sum_by (λ entry. blocks_for entry.image.length)
+        (with_package offer digest stored state).packages }
     ensures places { (bank : Bank) → IsPlace (place_of bank) }
 {}
 

@@ -15,8 +15,10 @@
 //!   `greatest_sequence_runs` says which of two manifests is in force (`over`, `greatest`), and
 //!   `images_have_their_lengths` that its images are as long as it says (`lengths`).
 //! - `unnamed_blocks_have_no_say`: image blocks that no running manifest names may change freely
-//!   (`holder`, `store`, `unnamed`). `rows_stand_apart` says the same of the row (`row`), and
-//!   `changes_behind_a_shut_gate` of the bank that doesn't run (`closing`, `shut`).
+//!   (`holder`, `store`, `unnamed`). `rows_stand_apart` says that changes in the row's block change
+//!   the row alone (`row`), `spends_change_the_row_alone` that a spend does, at each moment (`now`,
+//!   `moments`), and `changes_behind_a_shut_gate` says of the bank that doesn't run that it has no
+//!   say (`closing`, `shut`).
 //! - `an_install_leaves_old_or_new`: until the next manifest is sealed a power cut leaves what was
 //!   there (`begun`), in all of an install that or the next (`moments`), and once the gate is open
 //!   the next alone (`installed`). `writing_leaves_old_or_new` and `next_manifest_runs` say it of an
@@ -24,7 +26,8 @@
 //! - `manifests_fit`: a manifest fits its blocks and an element, and is found where it stands
 //!   (`size`, `room`, `stands`).
 //! - `installed_states_are_kept` and `blocks_stay_apart`: an install keeps a state valid (`kept`,
-//!   `apart`), which names as many blocks as its lengths ask for (`counted`).
+//!   `apart`), which names as many blocks as its lengths ask for (`counted`, and `asked` before it is
+//!   known that they fit).
 //!   `a_fresh_module_is_empty` says what a format makes (`empty`).
 //!
 //! Below it stand `bank_gate`, `key_state`, `module_record`, `config_table`, `block_pool`,
@@ -51,7 +54,8 @@ pub use laws::{
     a_fresh_module_is_empty, an_install_leaves_old_or_new, blocks_stay_apart,
     changes_behind_a_shut_gate, each_image_has_one_holder, greatest_sequence_runs,
     images_have_their_lengths, installed_states_are_kept, manifests_fit, next_manifest_runs,
-    one_manifest_each, rows_stand_apart, unnamed_blocks_have_no_say, writing_leaves_old_or_new,
+    one_manifest_each, rows_stand_apart, spends_change_the_row_alone, unnamed_blocks_have_no_say,
+    writing_leaves_old_or_new,
 };
 pub use layout::{FACTORY, FIRST_IMAGE_BLOCK, KEY_BOARD_BLOCKS, RECORD};
 pub use named::pool_of;
