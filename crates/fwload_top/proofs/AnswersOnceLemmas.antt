@@ -68,7 +68,7 @@ pub record Wrote (m : Meaning) (tc tm : Type 0) (left : Option (List ℕ)) (star
   pub silent : SameTest start.sent mid.sent
   pub flash : WritesNoFlash m → tc → mid.cells ≡ start.cells
   pub count : start.faults ≤ mid.faults
-  pub moments : tm → IsSettled start → LeavesOnly start mid (Sending start (CutLeaves m tc left start))
+  pub moments : tm → IsSettled start → LeavesOnly start mid (Sending start (CutLeaves m tc left start.cells start.blocks))
 
 pub wrote_nothing : (m : Meaning) {tc tm : Type 0} (left : Option (List ℕ)) (start mid : View) → Quiet tc tm start mid
     → Wrote m tc tm left start mid
@@ -78,7 +78,7 @@ wrote_nothing m {tc} {tm} left start mid quiet = record {
   flash = λ none told. quiet.cells told;
   count = omega (arith, quiet.calm);
   moments = λ told settled.
-      sending_none start mid (λ image s. (image ≡ start.cells) × start.sent s) (CutLeaves m tc left start)
+      sending_none start mid (λ image s. (image ≡ start.cells) × start.sent s) (CutLeaves m tc left start.cells start.blocks)
       (quiet.moments told settled) (λ image s h. (h.1, inl (refl, h.0)));
 }
 
@@ -91,13 +91,13 @@ wrote_unchanged m {tc} {tm} left start mid honest touches count = record {
   flash = λ none told. touched_none start mid touches told;
   count = count;
   moments = λ told settled.
-      sending_touched start mid (CutLeaves m tc left start) (honest.whole told) settled touches
+      sending_touched start mid (CutLeaves m tc left start.cells start.blocks) (honest.whole told) settled touches
       (λ image keeps. inl (refl, keeps_none start.cells image keeps));
 }
 
 -- calls that touched no more than an answer allows before its line
 pub wrote_before : (m : Meaning) {tc tm : Type 0} {free : ℕ → Type 0} (left : Option (List ℕ)) (start mid : View)
-    (o : m.Outcome) → IsHonest tc tm start → ComesTo (m.answer o) tc left start → Touches tc free start mid
+    (o : m.Outcome) → IsHonest tc tm start → ComesTo (m.answer o) tc left start.cells start.blocks → Touches tc free start mid
     → ((image : List ℕ) → Keeps free start.cells image → (m.answer o).before start.cells image)
     → start.faults ≤ mid.faults → Wrote m tc tm left start mid
 wrote_before m {tc} {tm} {free} left start mid o honest comes touches allows count = record {
@@ -106,7 +106,7 @@ wrote_before m {tc} {tm} {free} left start mid o honest comes touches allows cou
   flash = λ none told. (none o start.cells mid.cells).0 (allows mid.cells (touches.cells told));
   count = count;
   moments = λ told settled.
-      sending_touched start mid (CutLeaves m tc left start) (honest.whole told) settled touches
+      sending_touched start mid (CutLeaves m tc left start.cells start.blocks) (honest.whole told) settled touches
       (λ image keeps. inr (o, comes, inl (refl, allows image keeps)));
 }
 
@@ -114,7 +114,7 @@ wrote_before m {tc} {tm} {free} left start mid o honest comes touches allows cou
 pub record Poised (m : Meaning) (tc tm : Type 0) (source source' : Supply) (start mid : View) (o : m.Outcome) :
     Type 0 where
   pub wrote : Wrote m tc tm source.left start mid
-  pub comes : ComesTo (m.answer o) tc source.left start
+  pub comes : ComesTo (m.answer o) tc source.left start.cells start.blocks
   pub read : IsRead (m.answer o).input → IsAtEnd source'.left
   pub cells : tc → (m.answer o).after start.cells mid.cells
   pub settled : tc → IsSettled start → IsSettled mid
@@ -122,7 +122,7 @@ pub record Poised (m : Meaning) (tc tm : Type 0) (source source' : Supply) (star
 
 -- an answer that leaves the cells
 pub poised : (m : Meaning) {tc tm : Type 0} (source source' : Supply) (start mid : View) (o : m.Outcome)
-    → Quiet tc tm start mid → ((c : List ℕ) → (m.answer o).after c c) → ComesTo (m.answer o) tc source.left start
+    → Quiet tc tm start mid → ((c : List ℕ) → (m.answer o).after c c) → ComesTo (m.answer o) tc source.left start.cells start.blocks
     → (IsRead (m.answer o).input → IsAtEnd source'.left) → Poised m tc tm source source' start mid o
 poised m {tc} {tm} source source' start mid o quiet stays comes at_end = record {
   wrote = wrote_nothing m source.left start mid quiet;
@@ -165,19 +165,19 @@ has_input source source' input P was p =
 -- ---- the flash of a command that writes none
 
 cut_leaves_cells : (m : Meaning) {tc : Type 0} (left : Option (List ℕ)) (start : View) → WritesNoFlash m
-    → (image s : List ℕ) → CutLeaves m tc left start image s → image ≡ start.cells
+    → (image s : List ℕ) → CutLeaves m tc left start.cells start.blocks image s → image ≡ start.cells
 cut_leaves_cells m left start none image s (inl h) = h.1
 cut_leaves_cells m left start none image s (inr x) = ⊎_elim (λ early. (none x.0 start.cells image).0 early.1)
     (λ later. (none x.0 start.cells image).1 later.0) x.2
 
 leaves_flash : (m : Meaning) {tc tm : Type 0} (source source' : Supply) (start new : View) → WritesNoFlash m
     → (status : Status) → (tc → new.cells ≡ start.cells)
-    → (tm → IsSettled start → LeavesOnly start new (Sending start (CutLeaves m tc source.left start)))
+    → (tm → IsSettled start → LeavesOnly start new (Sending start (CutLeaves m tc source.left start.cells start.blocks)))
     → LeavesFlash (seen tc tm status source source' start new)
 leaves_flash m {tc} source source' start new none status cells moments = record {
   cells = cells;
   only_image = λ told settled.
-      leaves_weaker start new (Sending start (CutLeaves m tc source.left start)) (λ image s. image ≡ start.cells)
+      leaves_weaker start new (Sending start (CutLeaves m tc source.left start.cells start.blocks)) (λ image s. image ≡ start.cells)
       (moments told settled) (λ image q h. cut_leaves_cells m source.left start none image h.1 h.4);
 }
 
@@ -388,14 +388,14 @@ module _ (m : Meaning) {tc tm : Type 0} (source source' : Supply) (start mid new
 
   -- a cut while the line is sent
   cut_in_line : tc → (k : ℕ) → k ≤ length (m.answer o).line
-      → CutLeaves m tc source.left start mid.cells (take k (m.answer o).line)
+      → CutLeaves m tc source.left start.cells start.blocks mid.cells (take k (m.answer o).line)
   cut_in_line told k le = inr (o, poised.comes, inr (poised.cells told, (k, le, refl)))
 
   module _ (honest : IsHonest tc tm mid) (status result : Status)
       (replies : Replies tc tm status result (m.answer o).line mid new) where
-    moments_then : tm → IsSettled start → LeavesOnly start new (Sending start (CutLeaves m tc source.left start))
+    moments_then : tm → IsSettled start → LeavesOnly start new (Sending start (CutLeaves m tc source.left start.cells start.blocks))
     moments_then told settled =
-        sending_front start mid new (CutLeaves m tc source.left start) [] (m.answer o).line
+        sending_front start mid new (CutLeaves m tc source.left start.cells start.blocks) [] (m.answer o).line
         (sent_none start mid poised.wrote.silent) (poised.settled (honest.whole told) settled)
         (poised.wrote.moments told settled) (replies.moments told) (cut_in_line (honest.whole told))
 
@@ -457,7 +457,7 @@ module _ (m : Meaning) {tc tm : Type 0} (source source' : Supply) (start mid new
 
 module _ (m : Meaning) {tc tm : Type 0} (source source' : Supply) (start mid new : View)
     (quiet : Quiet tc tm start mid) where
-  comes_back : (a : Answer) → ComesTo a tc source.left mid → ComesTo a tc source.left start
+  comes_back : (a : Answer) → ComesTo a tc source.left mid.cells mid.blocks → ComesTo a tc source.left start.cells start.blocks
   comes_back a comes = record {
     cells = λ told. subst a.cells (quiet.cells told) (comes.cells told);
     blocks = subst a.blocks quiet.blocks comes.blocks;
@@ -521,8 +521,8 @@ module _ (m : Meaning) {tc tm : Type 0} (source source' : Supply) (start mid new
     silent = λ is. same_then quiet.silent (causes.silent is);
   }
 
-  cut_back : tc → (image s : List ℕ) → CutLeaves m tc source.left mid image s
-      → CutLeaves m tc source.left start image s
+  cut_back : tc → (image s : List ℕ) → CutLeaves m tc source.left mid.cells mid.blocks image s
+      → CutLeaves m tc source.left start.cells start.blocks image s
   cut_back told image s (inl h) = inl (h.0, h.1 ∙ quiet.cells told)
   cut_back told image s (inr x) = inr (
     x.0,
@@ -546,10 +546,10 @@ module _ (m : Meaning) {tc tm : Type 0} (source source' : Supply) (start mid new
     moments = moments;
   }
     where
-      moments : tm → IsSettled start → LeavesOnly start new (Sending start (CutLeaves m tc source.left start))
+      moments : tm → IsSettled start → LeavesOnly start new (Sending start (CutLeaves m tc source.left start.cells start.blocks))
       moments told settled =
           let tells = honest.whole told in
-          sending_then start mid new (CutLeaves m tc source.left start) (CutLeaves m tc source.left mid) []
+          sending_then start mid new (CutLeaves m tc source.left start.cells start.blocks) (CutLeaves m tc source.left mid.cells mid.blocks) []
           (sent_none start mid quiet.silent) ((wrote_nothing m source.left start mid quiet).moments told settled)
           (run.moments told (quiet.settled tells settled)) (cut_back tells)
 
@@ -572,7 +572,7 @@ module _ (m : Meaning) {tc tm : Type 0} (source source' : Supply) (start : View)
         may)
 
     -- it was read, and then an answer that leaves the cells was sent
-    pub read_then_sent : (new : View) (o : m.Outcome) → ComesTo (m.answer o) tc source.left start
+    pub read_then_sent : (new : View) (o : m.Outcome) → ComesTo (m.answer o) tc source.left start.cells start.blocks
         → ((c : List ℕ) → (m.answer o).after c c) → (status result : Status)
         → Replies tc tm status result (m.answer o).line start new → HasLine status → (m.answer o).status ≡ status
         → AnswersOnce m (seen tc tm result source source' start new)
@@ -592,7 +592,7 @@ module _ (m : Meaning) {tc tm T : Type 0} (source source' : Supply) (view : T �
       (subst (λ (b : T). AnswersOnce m (seen tc tm NoMemory source source' (view old) (view b))) (sym lacks.1)
       (read_then_no_memory m source source' (view old) honest may input was))
 
-  pub read_then_said : (o : m.Outcome) → ComesTo (m.answer o) tc source.left (view old)
+  pub read_then_said : (o : m.Outcome) → ComesTo (m.answer o) tc source.left (view old).cells (view old).blocks
       → ((c : List ℕ) → (m.answer o).after c c) → (m.answer o).status ≡ Refused → (result : Status)
       → ((result ≡ NoMemory) × (new ≡ old)) ⊎ Replies tc tm Refused result (m.answer o).line (view old) (view new)
       → AnswersOnce m (seen tc tm result source source' (view old) (view new))
@@ -603,7 +603,7 @@ module _ (m : Meaning) {tc tm T : Type 0} (source source' : Supply) (view : T �
 -- a run comes to what an answer for any board says of the input that was read
 pub on_any_board : {tc : Type 0} (source source' : Supply) (start : View) (status : Status) (line input : List ℕ)
     (P : List ℕ → Type 0) → WasRead source source' input → P input
-    → ComesTo (says status line any (read P)) tc source.left start
+    → ComesTo (says status line any (read P)) tc source.left start.cells start.blocks
 on_any_board source source' start status line input P was p = record {
   cells = λ told. tt;
   blocks = tt;
@@ -620,7 +620,7 @@ of_input (Some told) input P is some = subst P is some
 
 -- what comes over a board and an input that are ready isn't a refusal
 abbrev pub NeverRefuses : Meaning → Seen → Type 0
-NeverRefuses m r = (o : m.Outcome) → ComesTo (m.answer o) r.tells_cells r.source.left r.old → IsReady m r
+NeverRefuses m r = (o : m.Outcome) → ComesTo (m.answer o) r.tells_cells r.source.left r.old.cells r.old.blocks → IsReady m r
     → IsFinished (m.answer o).status
 
 -- a run that is ready comes to its end

@@ -104,7 +104,7 @@ module _ {tc tm : Type 0} (kind : HolderKind) (source source' : Supply) (start m
     (input : List ℕ) (honest : IsHonest tc tm start) (free : tc → IsFree start.cells)
     (room : board_blocks holder ≤ start.blocks) (was : WasRead source source' input)
     (recipe : IsRecipeOf kind input holder) where
-  comes : ComesTo (answer kind (made holder)) tc source.left start
+  comes : ComesTo (answer kind (made holder)) tc source.left start.cells start.blocks
   comes = record {
     cells = free;
     blocks = room;
@@ -124,7 +124,7 @@ module _ {tc tm : Type 0} (kind : HolderKind) (source source' : Supply) (start m
     moments = λ told settled.
         let tells = honest.whole told in
         sending_none start mid (FormatMoment (InFormat holder) (λ image. RecoversToNew image holder) start)
-        (CutLeaves (making kind) tc source.left start) (moments tells settled)
+        (CutLeaves (making kind) tc source.left start.cells start.blocks) (moments tells settled)
         (λ image s h. (
           h.1,
           inr (

@@ -103,7 +103,7 @@ module _ (p : Product) {tc : Type 0} (start : View) (key : SignKey) (held : tc �
 
     module _ (output : Output) (recipe : IsRecipeOf p input output) where
       comes : (leaf : ℕ) → (tc → leaf ≡ next) → leaf < leaf_count key
-          → ComesTo (answer p (signed output key leaf)) tc source.left start
+          → ComesTo (answer p (signed output key leaf)) tc source.left start.cells start.blocks
       comes leaf first unspent = record {
         cells = λ told. record { holds = held told; first = first told; unspent = unspent };
         blocks = room;
@@ -183,14 +183,14 @@ no_bad_line Package input (Packs plan) n recipe bad = package_has_no_bad_line in
 
 -- ---- what a power cut leaves is a signing run
 
-abbrev run_of : View → List ℕ → List ℕ → SigningRun
-run_of old image s = record { start = old.cells; sent = s; left = image }
+abbrev run_of : List ℕ → List ℕ → List ℕ → SigningRun
+run_of cells image s = record { start = cells; sent = s; left = image }
 
 module _ (one : (image : List ℕ) → HasOneKey image) (p : Product) {tc : Type 0} (told : tc) (left : Option (List ℕ))
-    (old : View) where
-  signs_in : (output : Output) (key : SignKey) (leaf : ℕ) → ComesTo (answer p (signed output key leaf)) tc left old
-      → (image s : List ℕ) → CutInAnswer (answer p (signed output key leaf)) old.cells image s
-      → Signs key output (run_of old image s)
+    (cells : List ℕ) (count : ℕ) where
+  signs_in : (output : Output) (key : SignKey) (leaf : ℕ) → ComesTo (answer p (signed output key leaf)) tc left cells count
+      → (image s : List ℕ) → CutInAnswer (answer p (signed output key leaf)) cells image s
+      → Signs key output (run_of cells image s)
   signs_in output key leaf comes image s (inl early) = record {
     leaf = record { kept = early.1; spent = λ some. absurd (omega (arith, some, ap length early.0)) };
     sent = (0, early.0);
@@ -211,13 +211,13 @@ module _ (one : (image : List ℕ) → HasOneKey image) (p : Product) {tc : Type
       }
 
   nothing_cut : {line : List ℕ} (image s : List ℕ) → (IsFront line s → (s ≡ []) ⊎ ((n : ℕ) × IsFront (line_refused n) s))
-      → ((s ≡ []) × (image ≡ old.cells)) ⊎ ((image ≡ old.cells) × IsFront line s) → SignsNothing old.cells image s
+      → ((s ≡ []) × (image ≡ cells)) ⊎ ((image ≡ cells) × IsFront line s) → SignsNothing cells image s
   nothing_cut image s front (inl early) = (early.1, inl early.0)
   nothing_cut image s front (inr later) = (later.0, front later.1)
 
-  pub nothing_or_signs : (key : SignKey) → HoldsKey old.cells key → (image s : List ℕ)
-      → CutLeaves (signing p) tc left old image s
-      → SignsNothing old.cells image s ⊎ ((output : Output) × Signs key output (run_of old image s))
+  pub nothing_or_signs : (key : SignKey) → HoldsKey cells key → (image s : List ℕ)
+      → CutLeaves (signing p) tc left cells count image s
+      → SignsNothing cells image s ⊎ ((output : Output) × Signs key output (run_of cells image s))
   nothing_or_signs key holds image s (inl before) = inl (before.1, inl before.0)
   nothing_or_signs key holds image s (inr (no_key, comes, cut)) =
       inl (nothing_cut image s (λ front. inl (front_of_none s front)) cut)
@@ -226,16 +226,16 @@ module _ (one : (image : List ℕ) → HasOneKey image) (p : Product) {tc : Type
   nothing_or_signs key holds image s (inr (all_spent, comes, cut)) =
       inl (nothing_cut image s (λ front. inl (front_of_none s front)) cut)
   nothing_or_signs key holds image s (inr (signed output other leaf, comes, cut)) =
-      let same = one old.cells other key (comes.cells told).holds holds in
+      let same = one cells other key (comes.cells told).holds holds in
       inr (
         output,
-        subst (λ (k : SignKey). Signs k output (run_of old image s)) same
+        subst (λ (k : SignKey). Signs k output (run_of cells image s)) same
             (signs_in output other leaf comes image s cut),
       )
 
   -- the key still holds the board
-  pub still_holds : (key : SignKey) → HoldsKey old.cells key → (image s : List ℕ)
-      → CutLeaves (signing p) tc left old image s → HoldsKey image key
+  pub still_holds : (key : SignKey) → HoldsKey cells key → (image s : List ℕ)
+      → CutLeaves (signing p) tc left cells count image s → HoldsKey image key
   still_holds key holds image s cut = ⊎_elim (λ none. subst (λ (c : List ℕ). HoldsKey c key) (sym none.0) holds)
-      (λ signs. holds_on key old.cells image holds (λ i free. omega (arith, free.1)) signs.1.leaf.kept)
+      (λ signs. holds_on key cells image holds (λ i free. omega (arith, free.1)) signs.1.leaf.kept)
       (nothing_or_signs key holds image s cut)

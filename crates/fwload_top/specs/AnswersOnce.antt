@@ -23,10 +23,12 @@ abbrev pub IsInput : Input → Option (List ℕ) → Type 0
 IsInput unread left = Unit {0}
 IsInput (read P) left = HasInput (λ input. (length input ≤ input_limit) × P input) left
 
--- A run may come to this answer: the board was as it says, as far as the board tells that, and so is the input.
-pub record ComesTo (a : Answer) (tells_cells : Type 0) (left : Option (List ℕ)) (old : View) : Type 0 where
-  pub cells : tells_cells → a.cells old.cells
-  pub blocks : a.blocks old.blocks
+-- A run may come to this answer: the board's cells and blocks were as it says, as far as the board tells the cells, and
+-- so is the input.
+pub record ComesTo (a : Answer) (tells_cells : Type 0) (left : Option (List ℕ)) (start : List ℕ) (count : ℕ) :
+    Type 0 where
+  pub cells : tells_cells → a.cells start
+  pub blocks : a.blocks count
   pub input : IsInput a.input left
 
 -- the input is read for it
@@ -45,7 +47,7 @@ MayRead m tells_cells old =
 pub record Ended (m : Meaning) (r : Seen) : Type 0 where
   pub outcome : m.Outcome
   pub status : (m.answer outcome).status ≡ r.status
-  pub comes : ComesTo (m.answer outcome) r.tells_cells r.source.left r.old
+  pub comes : ComesTo (m.answer outcome) r.tells_cells r.source.left r.old.cells r.old.blocks
   pub read : IsRead (m.answer outcome).input → IsAtEnd r.source'.left
   pub sent : Sent r.old r.new (m.answer outcome).line
   pub cells : r.tells_cells → (m.answer outcome).after r.old.cells r.new.cells
@@ -59,7 +61,7 @@ pub record Stopped (r : Seen) : Type 0 where
 abbrev pub BrokeOff : Meaning → Seen → Type 0
 BrokeOff m r =
     SameTest r.old.sent r.new.sent
-    ⊎ ((o : m.Outcome) × ComesTo (m.answer o) r.tells_cells r.source.left r.old
+    ⊎ ((o : m.Outcome) × ComesTo (m.answer o) r.tells_cells r.source.left r.old.cells r.old.blocks
     × FrontSent (m.answer o).line r.old r.new)
 
 -- the input is longer than the limit
@@ -87,12 +89,12 @@ CutInAnswer a start image s =
     ((s ≡ []) × a.before start image)
     ⊎ (a.after start image × IsFront a.line s)
 
--- A power cut leaves this image, and has sent these octets since the start: none, and the cells are as they were; or
--- it fell into an answer that the run would have come to.
-abbrev pub CutLeaves : Meaning → Type 0 → Option (List ℕ) → View → List ℕ → List ℕ → Type 0
-CutLeaves m tells_cells left old image s =
-    ((s ≡ []) × (image ≡ old.cells))
-    ⊎ ((o : m.Outcome) × ComesTo (m.answer o) tells_cells left old × CutInAnswer (m.answer o) old.cells image s)
+-- Over these cells and so many blocks, a power cut leaves this image, and has sent these octets since the start: none,
+-- and the cells are as they were; or it fell into an answer that the run would have come to.
+abbrev pub CutLeaves : Meaning → Type 0 → Option (List ℕ) → List ℕ → ℕ → List ℕ → List ℕ → Type 0
+CutLeaves m tells_cells left start count image s =
+    ((s ≡ []) × (image ≡ start))
+    ⊎ ((o : m.Outcome) × ComesTo (m.answer o) tells_cells left start count × CutInAnswer (m.answer o) start image s)
 
 -- The flash stays: the cells, and where nothing was pending at the start a power cut at any moment leaves them alone.
 pub record LeavesFlash (r : Seen) : Type 0 where
@@ -113,7 +115,7 @@ pub record AnswersOnce (m : Meaning) (r : Seen) : Type 0 where
   pub settled : r.tells_cells → IsSettled r.old → ¬ (r.status ≡ DeviceFault) → IsSettled r.new
   -- what a power cut at any moment leaves, where nothing was pending
   pub moments : r.tells_moments → IsSettled r.old
-      → LeavesOnly r.old r.new (Sending r.old (CutLeaves m r.tells_cells r.source.left r.old))
+      → LeavesOnly r.old r.new (Sending r.old (CutLeaves m r.tells_cells r.source.left r.old.cells r.old.blocks))
 
 -- ---- what brings it to its end
 

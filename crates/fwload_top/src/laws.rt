@@ -44,14 +44,14 @@ pub fn no_flash_is_written()
 /// run so far is one that signs with the key's next leaf. Over all such runs `no_leaf_signs_twice` of
 /// `packager` is said.
 pub fn cuts_leave_signing_runs<B: Board>()
-    ensures runs { B.tells_cells → (p : Product) (left : Option (List ℕ)) (old : B) (key : SignKey)
-        → HoldsKey (B.view old).cells key → (image s : List ℕ)
-        → CutLeaves (signing p) B.tells_cells left (B.view old) image s
-        → SignsNothing (B.view old).cells image s ⊎ ((output : Output)
-        × Signs key output (record { start = (B.view old).cells; sent = s; left = image })) }
-    ensures holds { B.tells_cells → (p : Product) (left : Option (List ℕ)) (old : B) (key : SignKey)
-        → HoldsKey (B.view old).cells key → (image s : List ℕ)
-        → CutLeaves (signing p) B.tells_cells left (B.view old) image s → HoldsKey image key }
+    ensures runs { B.tells_cells → (p : Product) (left : Option (List ℕ)) (cells : List ℕ) (count : ℕ)
+        → (key : SignKey) → HoldsKey cells key → (image s : List ℕ)
+        → CutLeaves (signing p) B.tells_cells left cells count image s
+        → SignsNothing cells image s ⊎ ((output : Output)
+        × Signs key output (record { start = cells; sent = s; left = image })) }
+    ensures holds { B.tells_cells → (p : Product) (left : Option (List ℕ)) (cells : List ℕ) (count : ℕ)
+        → (key : SignKey) → HoldsKey cells key → (image s : List ℕ)
+        → CutLeaves (signing p) B.tells_cells left cells count image s → HoldsKey image key }
 {
     each_image_has_one_holder();
 }
