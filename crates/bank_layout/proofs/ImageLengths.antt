@@ -2,7 +2,8 @@
 use Rattle.std.proofs.Common.{◌≡◌, ◌∙◌, ℕ, zero, suc, ◌+◌, ◌*◌, ◌<◌, ◌≤◌, List, [], ◌∷◌, length, map, Option, Some, None, refl, sym, ap, subst, arith, length-take}
 use Rattle.std.specs.List.{AllByRecursion}
 use Rattle.std.proofs.lemmas.List.Elements.{recursion_from_All}
-use Rattle.content_stream.specs.ImageBlocks.{blocks_for, octets_of}
+use Rattle.content_stream.specs.ImageBlocks.{octets_of}
+use Rattle.package_attrs.specs.Image.{blocks_for}
 use Rattle.content_stream.proofs.ReadLemmas.{LieIn, length-octets_of}
 use Rattle.config_table.specs.State.{Entry, entry_with, state_with}
 use Rattle.config_table.specs.Stored.{Stored}

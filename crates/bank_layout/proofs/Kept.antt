@@ -5,7 +5,7 @@ use Rattle.std.proofs.lemmas.List.Sums.{sum_by-cons}
 use Rattle.std.specs.Prelude.{sum_by, IfSome}
 use Rattle.std.proofs.lemmas.Bool.{cases_Bool}
 use Rattle.std.specs.List.{AllByRecursion}
-use Rattle.content_stream.specs.ImageBlocks.{blocks_for}
+use Rattle.package_attrs.specs.Image.{blocks_for}
 use Rattle.bank_gate.specs.Places.{IsPlace}
 use Rattle.package_attrs.specs.Identifier.{IsName}
 use Rattle.config_table.specs.declared.stale_entry.StaleEntry.{StaleEntry}

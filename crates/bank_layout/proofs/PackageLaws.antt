@@ -6,7 +6,7 @@ use Rattle.std.proofs.lemmas.Bool.{cases_Bool, eqb-true, eq-eqb, lt-ltb, ltb-tru
 use Rattle.std.proofs.lemmas.Bool.Decides.{nat_tests}
 use Rattle.std.proofs.lemmas.List.{append-nil, length-append, nil_from_length}
 use Rattle.std.proofs.lemmas.Option.{cond_some, none-some}
-use Rattle.content_stream.specs.ImageBlocks.{blocks_for}
+use Rattle.package_attrs.specs.Image.{blocks_for}
 use Rattle.der_core.specs.Element.{enc, AreOctets}
 use Rattle.der_core.specs.Number.{number_contents}
 use Rattle.der_core.specs.Reading.{◌>>?◌}

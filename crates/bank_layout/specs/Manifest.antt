@@ -19,7 +19,7 @@
 use Rattle.std.specs.Prelude.{◌≡◌, ℕ, ◌*◌, ◌/◌, ◌%◌, ◌<◌, ◌≤◌, ◌^◌, List, [], ◌∷◌, ◌++◌, length, None, IfSome, All}
 use Rattle.std.specs.List.{AllByRecursion, flat_map}
 use Rattle.block_pool.specs.Numbers.{IsApart}
-use Rattle.content_stream.specs.ImageBlocks.{blocks_for}
+use Rattle.package_attrs.specs.Image.{blocks_for}
 use Rattle.der_core.specs.Element.{enc}
 use Rattle.der_core.specs.Shapes.{text_if}
 use Rattle.module_record.specs.ModuleRecord.{number_text}

@@ -1,7 +1,7 @@
 -- The reading of manifests, by the shapes of their texts. Nothing here has to be believed: the clauses say what is read
 -- by the texts, and that what is read here agrees is proved.
 use Rattle.std.specs.Prelude.{ℕ, ◌+◌, ◌*◌, ◌^◌, ◌==◌, ◌&&◌, nat_lt, nat_le, if◌then◌else◌, List, [], ◌∷◌, length, Option, Some, None}
-use Rattle.content_stream.specs.ImageBlocks.{blocks_for}
+use Rattle.package_attrs.specs.Image.{blocks_for}
 use Rattle.der_core.specs.Reading.{◌>>?◌, number_of}
 use Rattle.der_core.specs.Shapes.{Front, Whole, element, alone, before, maybe_before, mapped, tested, listed, anything}
 use Rattle.module_record.specs.Reading.{sized, valued}

@@ -8,7 +8,7 @@ ghost use Rattle.edge_board.specs.Runs.{LeavesOnly, Touches};
 ghost use Rattle.bank_gate.specs.Places.{IsPlace};
 ghost use Rattle.bank_gate.specs.States.{IsOpen, IsOpened, Stands};
 ghost use Rattle.block_pool.specs.Numbers.{IsApart};
-ghost use Rattle.content_stream.specs.ImageBlocks.{blocks_for};
+ghost use Rattle.package_attrs.specs.Image.{blocks_for};
 ghost use Rattle.key_state.specs.KeyBlock.{FirstUnspent, IsLeafCount, row_start};
 ghost use Rattle.lms_sign.specs.PublicKeys.{leaf_count};
 ghost use Rattle.module_record.specs.ModuleRecord.{IsModule, module_text};

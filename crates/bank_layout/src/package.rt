@@ -1,6 +1,6 @@
 // Reading a package of a manifest.
 ghost use Rattle.std.specs.Prelude.{◌≡◌, ◌*◌, ◌==◌, ◌&&◌, nat_lt, length, IfOk};
-ghost use Rattle.content_stream.specs.ImageBlocks.{blocks_for};
+ghost use Rattle.package_attrs.specs.Image.{blocks_for};
 ghost use Rattle.der_core.specs.Reads.{Answers};
 ghost use Rattle.module_record.specs.Reading.{sized};
 ghost use Rattle.package_attrs.specs.ListReading.{kind_at};
@@ -10,9 +10,8 @@ ghost use Rattle.bank_layout.specs.ReadingView.{package_parts};
 
 use crate::format::Format;
 use config_table::{BlockNumbers, Installed};
-use content_stream::blocks_for;
 use der_core::{Cursor, read_u128, tags};
-use package_attrs::{MOST_DEPENDENCIES, Names, PackageName, read_name};
+use package_attrs::{MOST_DEPENDENCIES, Names, PackageName, blocks_for, read_name};
 use std::alloc::{AllocError, Global};
 
 // The greatest length that an image's number has.

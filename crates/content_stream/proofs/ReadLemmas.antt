@@ -2,7 +2,8 @@
 use Rattle.std.proofs.Common.{◌≡◌, ⊎_elim, ℕ, suc, ◌+◌, ◌-◌, ◌*◌, ◌/◌, ◌<◌, ◌≤◌, List, [], ◌∷◌, length, take, drop, get_or, refl, ap, ◌∙◌, arith, length-append, length-take, length-drop, get_or-take, get_or-drop}
 use Rattle.std.proofs.lemmas.List.{get_or_default, get_or_append_left, get_or-append_right, ext_get_or}
 use Rattle.std.proofs.lemmas.Bool.{cases_lt}
-use Rattle.content_stream.specs.ImageBlocks.{blocks_for, position, IsStored, octets_of, image_at}
+use Rattle.content_stream.specs.ImageBlocks.{position, IsStored, octets_of, image_at}
+use Rattle.package_attrs.specs.Image.{blocks_for}
 
 module _ (base : ℕ) (cells : List ℕ) where
   -- the blocks lie in the cells

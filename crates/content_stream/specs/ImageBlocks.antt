@@ -1,10 +1,7 @@
 -- An image in blocks of 4,096 octets that have numbers in a pool. The layout is this project's own.
 use Rattle.std.specs.Prelude.{◌≡◌, ℕ, ◌+◌, ◌*◌, ◌/◌, ◌%◌, ◌<◌, ◌≤◌, List, [], ◌∷◌, ◌++◌, take, drop, length, slice_index, slice_index_or}
 use Rattle.edge_board.specs.Board.{InBlock, cell}
-
--- how many blocks n octets take
-abbrev pub blocks_for : ℕ → ℕ
-blocks_for n = (n + 4095) / 4096
+use Rattle.package_attrs.specs.Image.{blocks_for}
 
 -- the octets of the blocks with these numbers, in order; the pool's block 0 is block `base` of the flash
 abbrev pub octets_of : ℕ → List ℕ → List ℕ → List ℕ

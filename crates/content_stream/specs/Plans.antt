@@ -3,7 +3,8 @@ use Rattle.std.specs.Prelude.{◌≡◌, ℕ, ◌+◌, ◌-◌, ◌<◌, ◌≤�
 use Rattle.edge_board.specs.Board.{InBlock}
 use Rattle.block_pool.specs.Pools.{IsFree, free_numbers, marked}
 use Rattle.content_stream.specs.Wraps.{IsWrapSize}
-use Rattle.content_stream.specs.ImageBlocks.{blocks_for, InImageBlocks}
+use Rattle.content_stream.specs.ImageBlocks.{InImageBlocks}
+use Rattle.package_attrs.specs.Image.{blocks_for}
 
 -- What a stream is to do.
 pub record Plan : Type 0 where

@@ -4,7 +4,8 @@ use Rattle.edge_board.specs.Board.{View, Leaves}
 use Rattle.sha2.specs.declared.Sha256.{Sha256}
 use Rattle.sha2.specs.Hashers.{Holds256}
 use Rattle.sha2.specs.Sha256.{sha256}
-use Rattle.content_stream.specs.ImageBlocks.{blocks_for, IsStored, image_at}
+use Rattle.content_stream.specs.ImageBlocks.{IsStored, image_at}
+use Rattle.package_attrs.specs.Image.{blocks_for}
 use Rattle.content_stream.specs.Plans.{Plan, numbers_of}
 use Rattle.content_stream.specs.declared.content_stream.ContentStream.{ContentStream}
 use Rattle.content_stream.specs.declared.content_stream.Streamed.{Streamed}

@@ -1,7 +1,7 @@
 // A content on its way into the flash.
 ghost use Rattle.std.specs.Prelude.{◌≡◌, ◌≤◌, ◌-◌, true, false, [], is_some, unwrap_or, length};
 ghost use Rattle.block_pool.specs.Numbers.{IsApart};
-ghost use Rattle.content_stream.specs.ImageBlocks.{blocks_for};
+ghost use Rattle.package_attrs.specs.Image.{blocks_for};
 
 use crate::hashing::content_hash;
 use crate::taking::take_blocks;

@@ -14,7 +14,6 @@
 //! - Whatever the three answer, at each moment since they began the flash differs in the stream's own
 //!   blocks alone, and nothing was sent (`touches`); a fault is answered exactly where the board
 //!   counted one (`cause`).
-//! - `blocks_for` is how many blocks an image takes.
 //! - Laws: a stream's blocks were free ones of the pool (`blocks_were_free`), and lie in each flash in
 //!   which the pool lies (`blocks_lie_below`). Each content has an image, the octets behind its wrap
 //!   (`each_content_has_an_image`: `some`, `rest`, `only`), so `streamed` tells of each.
@@ -29,7 +28,6 @@
 mod content_stream;
 mod feeding;
 mod hashing;
-mod image_blocks;
 mod laws;
 mod storing;
 mod taking;
@@ -37,6 +35,5 @@ mod wrap;
 
 pub use content_stream::{ContentStream, Streamed};
 pub use feeding::{abandon, feed, finish};
-pub use image_blocks::blocks_for;
 pub use laws::{blocks_lie_below, blocks_were_free, each_content_has_an_image};
 pub use wrap::image_length;

@@ -4,7 +4,8 @@ ghost use Rattle.edge_board.specs.Board.{InBlock, cell};
 ghost use Rattle.edge_board.specs.Causes.{HasCause};
 ghost use Rattle.edge_board.specs.Runs.{Touches};
 ghost use Rattle.block_pool.specs.Numbers.{IsApart};
-ghost use Rattle.content_stream.specs.ImageBlocks.{blocks_for, InImageBlocks, IsStored, IsBlank};
+ghost use Rattle.content_stream.specs.ImageBlocks.{InImageBlocks, IsStored, IsBlank};
+ghost use Rattle.package_attrs.specs.Image.{blocks_for};
 ghost use Rattle.content_stream.specs.ImageBlocks.{Holds, KeepsFront, RisesBy, RisesTo};
 
 use block_pool::Blocks;

@@ -4,7 +4,7 @@ use Rattle.std.specs.List.{sum_by, find}
 use Rattle.std.proofs.lemmas.List.Sums.{sum_by-cons, sum_by_more}
 use Rattle.std.proofs.lemmas.Option.{slice_get-get_or}
 use Rattle.std.specs.Option.{option_map_or}
-use Rattle.content_stream.specs.ImageBlocks.{blocks_for}
+use Rattle.package_attrs.specs.Image.{blocks_for}
 use Rattle.package_attrs.specs.declared.name.PackageName.TheVariants as names
 use Rattle.config_table.specs.State.{Entry, State, Offer, placed, entry_for, with_package, entry_with}
 use Rattle.config_table.proofs.StateLemmas.{with_package-state_with}

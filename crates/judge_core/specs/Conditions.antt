@@ -14,7 +14,7 @@ use Rattle.cms_signed.specs.SignedAnswer.{certificates_of}
 use Rattle.cms_signed.specs.Signer.{to_be_signed}
 use Rattle.cms_signed.specs.Tail.{signed_conditions}
 use Rattle.config_table.specs.State.{Entry, State, offer_of, with_package}
-use Rattle.content_stream.specs.ImageBlocks.{blocks_for}
+use Rattle.package_attrs.specs.Image.{blocks_for}
 use Rattle.hss_chain.specs.Chains.{HssHolds}
 use Rattle.hss_chain.specs.declared.key.HssKey.{HssKey}
 use Rattle.module_record.specs.declared.module.Module.{Module}

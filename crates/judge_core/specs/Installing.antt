@@ -3,7 +3,7 @@ use Rattle.std.specs.Prelude.{ℕ, ◌+◌, ◌<◌, ◌≤◌, ◌^◌, List, l
 use Rattle.std.specs.List.{AllByRecursion}
 use Rattle.sha2.specs.Sha256.{sha256}
 use Rattle.config_table.specs.State.{State, Offer, last_stale, with_package}
-use Rattle.content_stream.specs.ImageBlocks.{blocks_for}
+use Rattle.package_attrs.specs.Image.{blocks_for}
 use Rattle.package_attrs.specs.Identifier.{IsName}
 use Rattle.judge_core.specs.Conditions.{blocks_taken}
 use Rattle.judge_core.specs.Verdicts.{Bench}

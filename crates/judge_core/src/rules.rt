@@ -5,17 +5,16 @@ ghost use Rattle.std.specs.Prelude.{◌≡◌, ◌≤◌, ◌^◌, ℕ, List, So
 ghost use Rattle.config_table.specs.Names.{is_same};
 ghost use Rattle.config_table.specs.State.{Entry, offer_of, with_package};
 ghost use Rattle.config_table.specs.Stored.{Stored, lengths};
-ghost use Rattle.content_stream.specs.ImageBlocks.{blocks_for};
+ghost use Rattle.package_attrs.specs.Image.{blocks_for};
 ghost use Rattle.package_attrs.specs.Description.{description};
 ghost use Rattle.judge_core.specs.Conditions.{hardware_of, installed_with, blocks_taken};
 ghost use Rattle.judge_core.specs.Conditions.{room_conditions, rule_conditions};
 ghost use Rattle.judge_core.specs.Steps.{Tells};
 
 use config_table::State;
-use content_stream::blocks_for;
 use der_core::Condition;
 use module_record::Module;
-use package_attrs::{Package, PackageName};
+use package_attrs::{Package, PackageName, blocks_for};
 use package_rules::{HardwareModule, first_overflow, first_refusal};
 
 // The same of the image of the package at this place.

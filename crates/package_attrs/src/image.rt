@@ -1,9 +1,13 @@
 // The image in a package's content.
+ghost use Rattle.std.specs.Prelude.{◌≡◌, ◌≤◌, ◌^◌};
 ghost use Rattle.der_core.specs.Reads.{Answers};
-ghost use Rattle.package_attrs.specs.Image.{IsImage};
+ghost use Rattle.package_attrs.specs.Image.{IsImage, blocks_for};
 ghost use Rattle.package_attrs.specs.Reading.{octet_string_of};
 
 use der_core::{Cursor, tags};
+
+// Octets of a block of flash.
+const BLOCK: u32 = 4096;
 
 // The contents, where the octets are one OCTET STRING.
 #[tactic(auto, unfolding(crate::specs::Reading::octet_string_of))]
@@ -24,4 +28,12 @@ pub fn image_of(content: &[u8]) -> &[u8]
         Some(image) => image,
         None => content,
     }
+}
+
+/// How many blocks of 4,096 octets an image of so many octets takes, each from the start of a block.
+pub fn blocks_for(length: u32) -> u32
+    ensures blocks { result ≡ blocks_for length }
+    ensures most { result ≤ 2 ^ 20 }
+{
+    length.div_ceil(BLOCK)
 }

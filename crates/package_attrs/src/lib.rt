@@ -18,7 +18,7 @@
 //!   another (`covers`); `covers_are_told` is the law that their tests do (`identifiers`,
 //!   `targets`).
 //! - `image_of` gives the contents where a content is exactly one OCTET STRING, and else the
-//!   content (`image`).
+//!   content (`image`). `blocks_for` is how many blocks of flash an image takes (`blocks`).
 //! - `Identifier` holds no name of one kind with a stale value of the other (`alike`).
 //! - `one_text_each`, `one_text_of_targets`, `one_text_of_communities` and `one_text_of_info` are
 //!   the laws that two values never share a text (`unique`), and that a text is read as its own
@@ -69,7 +69,7 @@ pub use covers::{covers_are_told, identifier_covers, targets_cover};
 pub use dependencies::{Dependencies, MOST_DEPENDENCIES};
 pub use fields::{read_octets_at, read_oid_at};
 pub use identifier::Identifier;
-pub use image::image_of;
+pub use image::{blocks_for, image_of};
 pub use information::read_info;
 pub use laws::{
     one_description, one_image, one_text_each, one_text_of_communities, one_text_of_info,

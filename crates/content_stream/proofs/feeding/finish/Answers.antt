@@ -2,7 +2,8 @@ use Rattle.std.proofs.Common.{◌≡◌, ℕ, ◌-◌, List, [], length, drop, g
 use Rattle.std.specs.Option.{IsSome, is_some}
 use Rattle.sha2.specs.Sha256.{sha256}
 use Rattle.edge_board.proofs.RunLemmas.{settled_image}
-use Rattle.content_stream.specs.ImageBlocks.{blocks_for, IsStored, image_at}
+use Rattle.content_stream.specs.ImageBlocks.{IsStored, image_at}
+use Rattle.package_attrs.specs.Image.{blocks_for}
 use Rattle.content_stream.proofs.ReadLemmas.{stored_reads}
 use Rattle.content_stream.proofs.WrapLemmas.{image_is_rest}
 use Rattle.content_stream.proofs.feeding.finish.Goals as goal

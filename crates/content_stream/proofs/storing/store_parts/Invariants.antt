@@ -1,6 +1,7 @@
 use Rattle.std.proofs.Common.{◌≡◌, ℕ, ◌+◌, ◌-◌, ◌≤◌, List, ◌++◌, length, take}
 use Rattle.edge_board.specs.Runs.{Touches}
-use Rattle.content_stream.specs.ImageBlocks.{blocks_for, InImageBlocks, IsStored, RisesBy, RisesTo}
+use Rattle.content_stream.specs.ImageBlocks.{InImageBlocks, IsStored, RisesBy, RisesTo}
+use Rattle.package_attrs.specs.Image.{blocks_for}
 use Rattle.content_stream.proofs.storing.store_parts.Given as goal
 
 -- so many octets are stored, and the blocks alone were written

@@ -1,7 +1,7 @@
 use Rattle.std.proofs.Common.{◌≡◌, ◌+◌, ◌<◌, ◌≤◌, ◌^◌, [], true, ℕ, List, length, unwrap_or, All, sym, subst, rules}
 use Rattle.block_pool.specs.Numbers.{IsApart}
 use Rattle.block_pool.specs.Pools.{IsFree, marked}
-use Rattle.content_stream.specs.ImageBlocks.{blocks_for}
+use Rattle.package_attrs.specs.Image.{blocks_for}
 use Rattle.package_attrs.specs.Description.{description}
 use Rattle.config_table.specs.State.{State, offer_of, with_package}
 use Rattle.config_table.specs.Stored.{Stored}
