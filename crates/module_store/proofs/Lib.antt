@@ -3,3 +3,5 @@ mod Choices
 mod InstallMoments
 mod Keeping
 mod Owners
+mod Room
+mod Streams

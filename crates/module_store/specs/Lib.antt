@@ -1,3 +1,5 @@
 pub mod Choice
 pub mod Faults
+pub mod Moments
+pub mod Room
 pub mod Store

@@ -20,12 +20,17 @@
 //!   the module and the row the same, and nothing was sent (`moments`). With Ok the board holds the
 //!   new state alone, and the store is valid and says so (`holds`, `standing`, `installed`, `valid`),
 //!   no block being live but those that the state names (`quiet`). It takes no memory, writes the
-//!   spare bank's blocks alone (`touches`), erases at most 34 of them (`erased`), and answers a fault
-//!   exactly where the board counted one (`cause`).
+//!   spare bank's blocks alone (`touches`), and answers a fault exactly where the board counted one
+//!   (`cause`). A bank has 33 blocks, each of which is erased once; 34 is the bound that is proved
+//!   (`erased`).
+//! - Laws: what writes no more than the blocks of a stream over the store's pool leaves the flash at
+//!   each moment as one of the same store (`streams_have_no_say`: `stream`, `nothing`). A package
+//!   with room in the blocks and the tables finds its blocks in the pool, and with them it can be
+//!   prepared (`packages_with_room_can_be_prepared`: `blocks`, `ready`).
 //!
 //! Below it stand `bank_layout`, `bank_gate`, whose states keep the order of an install, `block_pool`,
-//! `content_stream` with what a stream hands on, `config_table` and `module_record`. The loader will
-//! stand above it.
+//! `content_stream` with what a stream hands on, `config_table` and `module_record`. The loader's
+//! loop stands above it.
 //!
 //! Whether the digest of a package is that of the octets in its blocks isn't asked: what is installed
 //! is the octets that the blocks hold. A board isn't formatted here.
@@ -33,10 +38,12 @@
 
 mod fault;
 mod installing;
+mod laws;
 mod opening;
 mod store;
 
 pub use fault::OpenFault;
 pub use installing::{Ready, install, prepare};
+pub use laws::{packages_with_room_can_be_prepared, streams_have_no_say};
 pub use opening::open;
 pub use store::Store;
