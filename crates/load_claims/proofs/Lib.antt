@@ -1,0 +1,9 @@
+pub mod Rows
+pub mod ItemLemmas
+pub mod Keeping
+pub mod Whole
+pub mod Living
+pub mod Serving
+pub mod Judging
+pub mod Below
+pub mod Steps

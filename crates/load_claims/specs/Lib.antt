@@ -1,0 +1,7 @@
+pub mod Answers
+pub mod Items
+pub mod Kept
+pub mod Inside
+pub mod Lives
+pub mod Headline
+pub mod Boards
