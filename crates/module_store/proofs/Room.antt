@@ -10,7 +10,7 @@ use Rattle.std.proofs.lemmas.List.Elements.{Contains-get_or, Contains-append_lef
 use Rattle.block_pool.specs.Numbers.{IsApart}
 use Rattle.block_pool.specs.Pools.{IsFree, LiveExactly, free_numbers, marked}
 use Rattle.block_pool.proofs.PoolLemmas.{length-marked}
-use Rattle.content_stream.specs.ImageBlocks.{blocks_for}
+use Rattle.package_attrs.specs.Image.{blocks_for}
 use Rattle.content_stream.specs.Plans.{TakesBlocks}
 use Rattle.package_attrs.specs.declared.name.PackageName.{PackageName}
 use Rattle.package_attrs.specs.declared.name.PackageName.TheVariants as names

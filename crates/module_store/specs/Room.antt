@@ -2,7 +2,7 @@
 -- project's own.
 use Rattle.std.specs.Prelude.{ℕ, ◌<◌, ◌≤◌, ◌^◌, List, length, IfSome}
 use Rattle.std.specs.List.{AllByRecursion, sum_by}
-use Rattle.content_stream.specs.ImageBlocks.{blocks_for}
+use Rattle.package_attrs.specs.Image.{blocks_for}
 use Rattle.package_attrs.specs.Identifier.{IsName}
 use Rattle.config_table.specs.State.{Offer, State, last_stale, with_package}
 

@@ -2,7 +2,7 @@
 ghost use Rattle.std.specs.Prelude.{◌≡◌, ◌+◌, ◌≤◌, ◌<◌, ◌^◌, ℕ, Bool, List, None, Some, length};
 ghost use Rattle.edge_board.specs.Board.{IsSettled, Nowhere};
 ghost use Rattle.edge_board.specs.Runs.{Touches};
-ghost use Rattle.content_stream.specs.ImageBlocks.{blocks_for};
+ghost use Rattle.package_attrs.specs.Image.{blocks_for};
 ghost use Rattle.content_stream.specs.Plans.{InStream, IsPlanned, Plan, TakesBlocks};
 ghost use Rattle.package_attrs.specs.Description.{Description};
 ghost use Rattle.package_attrs.specs.Identifier.{IsIdentifier};
