@@ -1,19 +1,16 @@
 -- The laws of the crates below, in the form that is used here.
 use Rattle.std.proofs.Common.{◌≡◌, ℕ, List, [], ◌∷◌, ◌++◌, length, refl, ap, ◌<◌}
-use Rattle.std.specs.Prelude.{Option, ◌↔◌, flat_map, AllPairs}
+use Rattle.std.specs.Prelude.{◌↔◌, flat_map, AllPairs}
 use Rattle.std.specs.List.{AllByRecursion}
-use Rattle.package_attrs.specs.declared.name.PackageName.{PackageName}
 use Rattle.module_record.specs.declared.module.Module.{Module}
 use Rattle.bank_layout.specs.Recovery.{Standing, Recovers, Holder}
 use Rattle.bank_layout.specs.Recovery.Holder.{module_board, nobody, key_board}
-use Rattle.der_core.specs.Condition.{IsCondition}
-use Rattle.judge_core.specs.Verdicts.{Bench, Verdict, Judges, IsAccepted, IsAdmitted, refuses}
-use Rattle.receipt_writer.specs.Answers.{IsNamed}
+use Rattle.judge_core.specs.Verdicts.{Bench, Verdict, Judges, IsAccepted, IsAdmitted}
 use Rattle.load_claims.specs.Items.{JudgesAt, Judged, answers, after_all, bench_at}
 use Rattle.load_claims.specs.Kept.{Keeps, Kept, KeptIn, MadeByFirst}
 use Rattle.load_claims.specs.Lives.{Round, IsRound, Follow, Life, last_image, leaves_of, fresh}
 use Rattle.load_claims.specs.Headline.{FindsPrefix, AreExactIn}
-use Rattle.load_claims.proofs.Judging.{judges_at, are_exact, refusal_named}
+use Rattle.load_claims.proofs.Judging.{judges_at, are_exact}
 use Rattle.load_claims.proofs.Keeping.{kept_more, kept_then}
 use Rattle.load_claims.proofs.Whole.{kept_of_all}
 use Rattle.load_claims.proofs.Living.{OneStanding, Climbs, Ends, ends, made_by_first, life_climbs, climbing_pairs}
@@ -38,9 +35,6 @@ standing_in d (module_board m standing) = standing
 pub one_standing : OneHolder → OneStanding
 unfolding standing_in
 one_standing law image m a b first second = ap (standing_in a) (law image (module_board m a) (module_board m b) first second)
-
-pub refusal_at : (m : Module) (at : ℕ) (now : Standing) (item : List ℕ) (number : ℕ) (name : Option PackageName) → JudgesAt m at now item (refuses number name) → IsCondition number × IsNamed number name
-refusal_at m at now item number name judges = refusal_named (bench_at m at now) item number name (judges_at m at now item (refuses number name) judges)
 
 pub to_the_list : (m : Module) (at : ℕ) (start : Standing) (done : List (List ℕ)) (item : List ℕ) (rest : List (List ℕ)) (verdicts : List Verdict) (image t : List ℕ) → Judged m at start done verdicts → length verdicts ≡ length done
     → KeptIn m at (after_all start verdicts) (item ∷ []) image t → KeptIn m at start (done ++ item ∷ rest) image (answers m start verdicts ++ t)

@@ -12,7 +12,7 @@ use Rattle.key_state.proofs.Rows.{length-use_in, use_at, use_other}
 use Rattle.module_record.specs.declared.module.Module.{Module}
 use Rattle.bank_layout.specs.Recovery.{Standing}
 use Rattle.judge_core.specs.Verdicts.{Verdict, accepts, refuses}
-use Rattle.load_claims.specs.Answers.{plain_answer, signed_answer}
+use Rattle.answer_write.specs.Answers.{plain_answer, signed_answer}
 use Rattle.load_claims.specs.Items.{answer, answer_type, answer_text, after, uses_leaf, is_signed}
 use Rattle.load_claims.specs.Kept.{SameStore}
 use Rattle.load_claims.proofs.Rows.{use_le, use_lt}

@@ -6,7 +6,7 @@ use Rattle.module_record.specs.declared.module.Module.{Module}
 use Rattle.bank_layout.specs.Recovery.{Standing}
 use Rattle.judge_core.specs.Verdicts.{Bench, Verdict, accepts, refuses, Judges}
 use Rattle.receipt_writer.specs.Answers.{receipt_text, error_text}
-use Rattle.load_claims.specs.Answers.{load_receipt, load_error, plain_answer, signed_answer}
+use Rattle.answer_write.specs.Answers.{load_receipt, load_error, plain_answer, signed_answer}
 
 -- ---- one item
 

@@ -1,4 +1,3 @@
-pub mod Answers
 pub mod Items
 pub mod Kept
 pub mod Inside

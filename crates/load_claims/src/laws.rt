@@ -1,42 +1,30 @@
 // Laws over the definitions alone.
-ghost use Rattle.std.specs.Prelude.{◌≡◌, ◌+◌, ◌<◌, ◌≤◌, ℕ, List, [], ◌∷◌, ◌++◌, length, sum_by, flat_map, AllPairs, Option};
+ghost use Rattle.std.specs.Prelude.{◌≡◌, ◌+◌, ◌<◌, ℕ, List, [], ◌∷◌, ◌++◌, length, sum_by, flat_map, AllPairs};
 ghost use Rattle.std.specs.List.{AllByRecursion};
-ghost use Rattle.package_attrs.specs.declared.name.PackageName.{PackageName};
-ghost use Rattle.der_core.specs.Condition.{IsCondition};
 ghost use Rattle.config_table.specs.State.{made_by, empty_state};
 ghost use Rattle.module_record.specs.declared.module.Module.{Module};
 ghost use Rattle.bank_layout.specs.Recovery.{Standing, Recovers};
 ghost use Rattle.bank_layout.specs.Recovery.Holder.{module_board};
 ghost use Rattle.judge_core.specs.Verdicts.{Verdict};
-ghost use Rattle.judge_core.specs.Verdicts.Verdict.{refuses};
-ghost use Rattle.receipt_writer.specs.Answers.{IsNamed};
-ghost use Rattle.load_claims.specs.Items.{JudgesAt, Judged, answers, after_all};
+ghost use Rattle.load_claims.specs.Items.{Judged, answers, after_all};
 ghost use Rattle.load_claims.specs.Kept.{Keeps, Kept, KeptIn};
 ghost use Rattle.load_claims.specs.Inside.{InRun};
 ghost use Rattle.load_claims.specs.Lives.{Round, IsRound, Life, last_image, installs, installed_in, InstallsReceiptsOrOneMore, leaves_of};
 ghost use Rattle.load_claims.specs.Headline.{FindsPrefix, AreExactIn};
 
 use bank_layout::each_image_has_one_holder;
-use judge_core::{accepted_is_admitted, one_verdict_each};
+use judge_core::{accepted_is_admitted, no_item_is_without_a_verdict, one_verdict_each};
 
 // ---- items
 
-/// A law: no item is without a verdict, and no list of items without one for each. (Which it is only
-/// a judge can say.)
-pub fn no_item_is_without_a_verdict()
-    ensures one { (m : Module) (at : ℕ) (now : Standing) (item : List ℕ)
-        → ¬ ((verdict : Verdict) → ¬ JudgesAt m at now item verdict) }
+/// A law: no list of items is without a verdict on each. (Which it is only a judge can say.)
+pub fn no_items_are_without_verdicts()
     ensures all { (m : Module) (at : ℕ) (start : Standing) (items : List (List ℕ))
         → ¬ ((verdicts : List Verdict) → length verdicts ≡ length items
         → ¬ Judged m at start items verdicts) }
-{}
-
-/// A law: a refusal has the number of a condition, and a name exactly from condition 20 on.
-pub fn refusals_have_their_names()
-    ensures named { (m : Module) (at : ℕ) (now : Standing) (item : List ℕ) (number : ℕ)
-        (name : Option PackageName) → JudgesAt m at now item (refuses number name)
-        → IsCondition number × IsNamed number name }
-{}
+{
+    no_item_is_without_a_verdict();
+}
 
 /// A law: items have one list of verdicts, and so one list of answers, and one thing that stands on the
 /// board after them.
