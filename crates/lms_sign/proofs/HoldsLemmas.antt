@@ -1,17 +1,19 @@
 -- What a signing key signs holds under its public key.
-use Rattle.std.proofs.Common.{◌≡◌, ℕ, zero, suc, ◌+◌, ◌-◌, ◌^◌, ◌<◌, ◌≤◌, List, [], map, length, refl, ap, sym, ◌∙◌, arith}
+use Rattle.std.proofs.Common.{◌≡◌, ℕ, zero, suc, ◌+◌, ◌-◌, ◌*◌, ◌^◌, ◌<◌, ◌≤◌, List, [], ◌++◌, map, length, length-append, refl, ap, sym, ◌∙◌, arith}
 use Rattle.std.specs.Prelude.{slice_index}
 use Rattle.std.proofs.lemmas.Nat.{mod_below, pow_pos}
 use Rattle.std.proofs.lemmas.List.FromFn.{length-map-range_with_len, get_or-map-range_with_len}
 use Rattle.sha2.proofs.Facts256.{length-sha256}
 use Rattle.hss_chain.specs.Chains.{HssHolds}
-use Rattle.lms_verify.specs.Kinds.{chain_count, height, width}
-use Rattle.lms_verify.specs.Digits.{below, checked_value, digit, message_digits}
+use Rattle.lms_verify.specs.declared.kind.LmsKind.{LmsKind}
+use Rattle.lms_verify.specs.declared.kind.OtsKind.{OtsKind}
+use Rattle.lms_verify.specs.Kinds.{chain_count, height, lms_number, width}
+use Rattle.lms_verify.specs.Digits.{below, checked_value, digit, message_digits, u32str}
 use Rattle.lms_verify.specs.OneTime.{candidate_key, chain, chain_after, chain_end, message_value, one_time_key}
-use Rattle.lms_verify.specs.Signatures.{signature_text}
+use Rattle.lms_verify.specs.Signatures.{LmsSignature, signature_size, signature_text}
 use Rattle.lms_verify.specs.Tree.{Leads, leaf_value, node}
 use Rattle.lms_sign.specs.declared.key.SignKey.{SignKey}
-use Rattle.lms_sign.specs.PublicKeys.{leaf_count}
+use Rattle.lms_sign.specs.PublicKeys.{hss_signature_size, leaf_count}
 use Rattle.lms_sign.specs.Secrets.{one_time_public, randomizer, secret, whole_chain}
 use Rattle.lms_sign.specs.Nodes.{above, beside, path, path_value, tree_node}
 use Rattle.lms_sign.specs.Roots.{public_key}
@@ -115,3 +117,26 @@ signature_holds key q message lt =
         leads = leads_up key q _ lt (ap (leaf_value key.id (leaf_count key + q)) (candidate_is key q value));
       };
     }
+
+-- how many octets the parts of a signature have
+text_size : (kind : LmsKind) (ots : OtsKind) (s : LmsSignature) → length s.randomizer ≡ 32
+    → length s.values ≡ 32 * chain_count ots → length s.path ≡ 32 * height kind
+    → length (u32str 0 ++ signature_text kind ots s) ≡ 4 + signature_size kind ots
+text_size kind ots s random values path =
+    omega (
+      arith,
+      length-append s.randomizer s.values,
+      length-append (s.randomizer ++ s.values) (u32str (lms_number kind)),
+      length-append ((s.randomizer ++ s.values) ++ u32str (lms_number kind)) s.path,
+      random,
+      values,
+      path,
+    )
+
+pub length-sign_text : (key : SignKey) (q : ℕ) (message : List ℕ)
+    → length (sign_text key q message) ≡ hss_signature_size key
+length-sign_text key q message =
+    let value = message_value key.id q (randomizer key q) message in
+    text_size key.kind key.ots (signature_of key q message) (length-sha256 _)
+    (length-flat_map_below (signature_value key q value) (length-signature_value key q value) (chain_count key.ots))
+    (length-flat_map_below (path_value key q) (λ k. length-tree_node key (beside (above key q k))) (height key.kind))

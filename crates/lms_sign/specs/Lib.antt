@@ -3,3 +3,4 @@ pub mod Secrets
 pub mod Nodes
 pub mod Roots
 pub mod SignTexts
+pub mod KeyTrees

@@ -1,5 +1,5 @@
 // Laws over the definitions alone.
-ghost use Rattle.std.specs.Prelude.{◌≡◌, ℕ, ◌+◌, ◌<◌, ◌≤◌, ◌^◌, List};
+ghost use Rattle.std.specs.Prelude.{◌≡◌, ℕ, ◌+◌, ◌<◌, ◌≤◌, ◌^◌, List, length};
 ghost use Rattle.hss_chain.specs.declared.key.HssKey.{HssKey};
 ghost use Rattle.hss_chain.specs.Chains.{HssHolds};
 ghost use Rattle.hss_chain.specs.Keys.{IsHssKey, hss_key_text};
@@ -10,7 +10,7 @@ ghost use Rattle.lms_sign.specs.declared.key.SignKey.{SignKey};
 ghost use Rattle.lms_sign.specs.Nodes.{GoesUp, IsTree, above, tree_node};
 ghost use Rattle.lms_sign.specs.Roots.{public_key};
 ghost use Rattle.lms_sign.specs.SignTexts.{sign_text};
-ghost use Rattle.lms_sign.specs.PublicKeys.{leaf_count};
+ghost use Rattle.lms_sign.specs.PublicKeys.{hss_signature_size, leaf_count};
 
 /// A law: m steps of a chain and then n steps are m + n steps (RFC 8554, sections 4.3 and 4.6).
 pub fn steps_of_a_chain_add_up()
@@ -37,6 +37,13 @@ pub fn path_goes_up_the_tree()
 pub fn signatures_hold()
     ensures { (key : SignKey) (q : ℕ) (message : List ℕ) → q < leaf_count key
         → HssHolds (public_key key) message (sign_text key q message) }
+{}
+
+/// A law: what a key signs has as many octets as `signature_size` says (RFC 8554, sections 5.4 and
+/// 6.2).
+pub fn signatures_have_one_size()
+    ensures size { (key : SignKey) (leaf : ℕ) (message : List ℕ) → leaf < leaf_count key
+        → length (sign_text key leaf message) ≡ hss_signature_size key }
 {}
 
 /// A law: signatures that are equal were made with leaves of one number, whatever the keys and the

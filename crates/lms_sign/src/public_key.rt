@@ -1,6 +1,7 @@
 ghost use Rattle.std.specs.Prelude.{◌≡◌};
 ghost use Rattle.hss_chain.specs.Keys.{IsHssKey, hss_key_text};
 ghost use Rattle.key_state.specs.KeyBlock.{IsLeafCount};
+ghost use Rattle.lms_sign.specs.Nodes.{tree_node};
 ghost use Rattle.lms_sign.specs.PublicKeys.{hss_signature_size, key_id, leaf_count};
 ghost use Rattle.lms_sign.specs.Roots.{public_key};
 
@@ -23,13 +24,21 @@ pub fn public(key: &SignKey) -> HssKey
     ensures value { result ≡ public_key key.now }
     ensures valid { IsHssKey result }
 {
+    with_root(key, tree_node(key, 1))
+}
+
+// The public key of one level with this root.
+pub(crate) fn with_root(key: &SignKey, root: [u8; 32]) -> HssKey
+    ensures value { root ≡ tree_node key.now 1 → result ≡ public_key key.now }
+    ensures valid { IsHssKey result }
+{
     HssKey {
         levels: 1,
         top: LmsKey {
             kind: key.kind,
             ots: key.ots,
             id: key.id,
-            root: tree_node(key, 1),
+            root,
         },
     }
 }

@@ -20,21 +20,36 @@ pub fn sign(key: &SignKey, leaf: Leaf, first: &[u8], rest: &[u8], out: &mut [u8]
     ensures signature { out.new ≡ sign_text key.now leaf (first.now ++ rest.now) }
 {
     let q = leaf.number();
+    let (front, path) = out.split_at_mut(front_size(key));
+    put_front(key, q, first, rest, front);
+    put_path(key, q, path);
+}
+
+// How many octets stand before the path.
+pub(crate) fn front_size(key: &SignKey) -> usize
+    ensures { result ≡ 48 + 32 * chain_count key.now.ots }
+{
+    4 * NUMBER_LEN + VALUE_LEN * (1 + key.ots.chain_count())
+}
+
+// Writes the signature of a message but for its path.
+pub(crate) fn put_front(key: &SignKey, q: u32, first: &[u8], rest: &[u8], out: &mut [u8])
+    requires { length out.old ≡ 48 + 32 * chain_count key.now.ots }
+    ensures { out.new ++ path key.now q ≡ sign_text key.now q (first.now ++ rest.now) }
+{
     let randomizer = randomizer(key, q);
     let value = message_value(&key.id, q, &randomizer, first, rest);
     let (lower_levels, lms) = out.split_at_mut(NUMBER_LEN);
     let (leaf_number, lms) = lms.split_at_mut(NUMBER_LEN);
     let (ots_number, lms) = lms.split_at_mut(NUMBER_LEN);
     let (random, lms) = lms.split_at_mut(VALUE_LEN);
-    let (values, lms) = lms.split_at_mut(VALUE_LEN * key.ots.chain_count());
-    let (lms_number, path) = lms.split_at_mut(NUMBER_LEN);
+    let (values, lms_number) = lms.split_at_mut(VALUE_LEN * key.ots.chain_count());
     lower_levels.copy_from_slice(&0u32.to_be_bytes());
     leaf_number.copy_from_slice(&q.to_be_bytes());
     ots_number.copy_from_slice(&key.ots.number().to_be_bytes());
     random.copy_from_slice(&randomizer);
     put_values(key, q, &value, values);
     lms_number.copy_from_slice(&key.kind.number().to_be_bytes());
-    put_path(key, q, path);
 }
 
 // Writes the values y[0] to y[p - 1] (RFC 8554, section 4.5).
@@ -64,7 +79,7 @@ fn put_path(key: &SignKey, q: u32, out: &mut [u8])
 }
 
 // The number of the node beside node `r`, from 1 on.
-fn beside(r: u32) -> u32
+pub(crate) fn beside(r: u32) -> u32
     requires first { 1 ≤ r }
     requires small { r < 2 ^ 31 }
     ensures { result ≡ beside r }
@@ -73,7 +88,7 @@ fn beside(r: u32) -> u32
 }
 
 // Writes value `i`, behind those before it.
-fn put_value(out: &mut [u8], i: usize, value: &[u8; 32])
+pub(crate) fn put_value(out: &mut [u8], i: usize, value: &[u8; 32])
     requires { 32 * i + 32 ≤ length out.old }
     ensures { (values : ℕ → List ℕ) → take (32 * i) out.old ≡ flat_map values (below i)
         → value.now ≡ values i
