@@ -131,3 +131,36 @@ pub same_anchor : (anchors : List TrustAnchor) (place other : ℕ) (read anchor 
 same_anchor anchors place other read anchor same less is at =
     let there = slice_get_read anchors (length anchors) place read refl less is in
     let both : Some read ≡ Some anchor = sym there ∙ ap (slice_get anchors) same ∙ at in cc
+
+-- ---- members by their places
+
+there_is : {A : Type 0} (xs : List A) (n : ℕ) → n < length xs → (x : A) × (slice_get xs n ≡ Some x)
+there_is [] n less = absurd (omega (arith, less))
+there_is (x ∷ xs) zero less = (x, refl)
+there_is (x ∷ xs) (suc n) less = there_is xs n (let fewer : n < length xs = omega (arith, less) in fewer)
+
+module _ (certificates : List Certificate) where
+  first_member : (x : ℕ) (xs : List ℕ) (c : Certificate) → slice_get certificates x ≡ Some c
+      → members_at certificates (x ∷ xs) ≡ c ∷ members_at certificates xs
+  first_member x xs c is = ap (λ o. cons_option o (members_at certificates xs)) is
+
+  -- as many members as places
+  pub members_count : (places : List ℕ) → AllByRecursion (λ place. place < length certificates) places
+      → length (members_at certificates places) ≡ length places
+  members_count [] all = refl
+  members_count (x ∷ xs) all =
+      let one = there_is certificates x all.0 in
+      ap length (first_member x xs one.0 one.1) ∙ ap suc (members_count xs all.1)
+
+  -- and each is the certificate at its place
+  pub member_there : (places : List ℕ) (i place : ℕ) → AllByRecursion (λ place. place < length certificates) places
+      → slice_get places i ≡ Some place
+      → slice_get (members_at certificates places) i ≡ slice_get certificates place
+  member_there [] i place all is = absurd (let e : None ≡ Some place = is in cc)
+  member_there (x ∷ xs) zero place all is =
+      let one = there_is certificates x all.0 in
+      let same : x ≡ place = cc in
+      ap (λ l. slice_get l 0) (first_member x xs one.0 one.1) ∙ sym one.1 ∙ ap (slice_get certificates) same
+  member_there (x ∷ xs) (suc i) place all is =
+      let one = there_is certificates x all.0 in
+      ap (λ l. slice_get l (suc i)) (first_member x xs one.0 one.1) ∙ member_there xs i place all.1 is

@@ -2,7 +2,7 @@
 use Rattle.std.specs.Prelude.{◌≡◌, ◌⊎◌, ℕ, List, ◌∷◌}
 use Rattle.cert_fields.specs.Algorithms.{signature_algorithm}
 use Rattle.cert_fields.specs.Anchor.{TrustAnchor}
-use Rattle.cert_fields.specs.Certificate.{Certificate, signed_text}
+use Rattle.cert_fields.specs.Certificate.{BitString, Certificate, signed_text}
 use Rattle.hss_chain.specs.Chains.{HssHolds}
 use Rattle.hss_chain.specs.Keys.{IsHssKey, hss_key_text}
 use Rattle.hss_chain.specs.declared.key.HssKey.{HssKey}
@@ -24,9 +24,15 @@ pub record IsAnchorKey (anchor : TrustAnchor) (key : HssKey) : Type 0 where
   pub valid : IsHssKey key
   pub text : anchor.key ≡ hss_key_text key
 
--- The certificate is signed by this key: both fields name HSS, and the signature is one over the signed part (4.1.1.3).
-pub record IsSignedBy (key : HssKey) (c : Certificate) : Type 0 where
-  pub inner : c.signed.algorithm ≡ signature_algorithm
-  pub outer : c.algorithm ≡ signature_algorithm
-  pub unused : c.signature.0 ≡ 0
-  pub holds : HssHolds key (signed_text c.signed) c.signature.1
+-- These octets are signed by this key: both fields that name the algorithm name HSS, without parameters, and the bits are
+-- all of a signature over the octets (RFC 9708; 4.1.1.3, and 5.1.1.3 of revocation lists).
+pub record IsSignedOver (key : HssKey) (signed_field outer_field : List ℕ) (signature : BitString) (octets : List ℕ)
+    : Type 0 where
+  pub inner : signed_field ≡ signature_algorithm
+  pub outer : outer_field ≡ signature_algorithm
+  pub unused : signature.0 ≡ 0
+  pub holds : HssHolds key octets signature.1
+
+-- The certificate is signed by this key: the signature is one over the signed part (4.1.1.3).
+abbrev pub IsSignedBy : HssKey → Certificate → Type 0
+IsSignedBy key c = IsSignedOver key c.signed.algorithm c.algorithm c.signature (signed_text c.signed)

@@ -52,18 +52,21 @@ fn is_key_of(alloc: Global, key: &Octets64, cert: &KeptCert<'_>) -> Result<bool,
     }
 }
 
-// Whether the candidate may have issued the child, which gives this key identifier.
+// Whether the candidate may have issued the child, which names this issuer and gives this key
+// identifier.
 fn is_above(
     alloc: Global,
-    child: &KeptCert<'_>,
+    _child: &KeptCert<'_>,
+    issuer: &[u8],
     key: &Option<Octets64>,
     candidate: &KeptCert<'_>,
 ) -> Result<bool, AllocError>
-    requires key { TellsKey (HasAuthorityKey child.now) key.now }
+    requires issuer { issuer.now ≡ _child.now.signed.issuer }
+    requires key { TellsKey (HasAuthorityKey _child.now) key.now }
     ensures above { IfOk result (λ is. IsTrue is
-        ↔ IsAbove child.now candidate.now) }
+        ↔ IsAbove _child.now candidate.now) }
 {
-    if candidate.subject() != child.issuer() {
+    if candidate.subject() != issuer {
         return Ok(false);
     }
     match key {
@@ -72,11 +75,17 @@ fn is_above(
     }
 }
 
-fn is_anchor_above(child: &KeptCert<'_>, key: &Option<Octets64>, anchor: &Anchor) -> bool
-    requires key { TellsKey (HasAuthorityKey child.now) key.now }
-    ensures above { IsTrue result ↔ IsAnchorAbove child.now anchor.now }
+fn is_anchor_above(
+    _child: &KeptCert<'_>,
+    issuer: &[u8],
+    key: &Option<Octets64>,
+    anchor: &Anchor,
+) -> bool
+    requires issuer { issuer.now ≡ _child.now.signed.issuer }
+    requires key { TellsKey (HasAuthorityKey _child.now) key.now }
+    ensures above { IsTrue result ↔ IsAnchorAbove _child.now anchor.now }
 {
-    if anchor.subject() != child.issuer() {
+    if anchor.subject() != issuer {
         return false;
     }
     match key {
@@ -91,7 +100,8 @@ fn is_named(alloc: Global, sid: &Sid<'_>, cert: &KeptCert<'_>) -> Result<bool, A
 {
     match sid {
         Sid::Serial { issuer, serial } => {
-            Ok(cert.issuer() == *issuer && cert.serial() == *serial)
+            let signed = cert.cert().signed;
+            Ok(signed.issuer == *issuer && signed.serial == *serial)
         }
         Sid::KeyId(key) => match subject_key(alloc, cert)? {
             Some(own) => Ok(own.octets() == *key),
@@ -138,19 +148,22 @@ fn named_anchor(sid: &Sid<'_>, anchors: &[Anchor]) -> Option<usize>
     None
 }
 
-// The place of the first certificate above the child, which gives this key identifier.
+// The place of the first certificate above the child, which names this issuer and gives this key
+// identifier.
 fn first_above(
     alloc: Global,
     child: &KeptCert<'_>,
+    issuer: &[u8],
     key: &Option<Octets64>,
     certs: &[KeptCert<'_>],
 ) -> Result<Option<usize>, AllocError>
+    requires issuer { issuer.now ≡ child.now.signed.issuer }
     requires key { TellsKey (HasAuthorityKey child.now) key.now }
     ensures first { IfOk result (TellsFirst (IsAbove child.now)
         (certs.now)) }
 {
     for (place, candidate) in certs.iter().enumerate() {
-        if is_above(alloc, child, key, candidate)? {
+        if is_above(alloc, child, issuer, key, candidate)? {
             return Ok(Some(place));
         }
     }
@@ -160,14 +173,16 @@ fn first_above(
 // The place of the first anchor above it.
 fn first_anchor_above(
     child: &KeptCert<'_>,
+    issuer: &[u8],
     key: &Option<Octets64>,
     anchors: &[Anchor],
 ) -> Option<usize>
+    requires issuer { issuer.now ≡ child.now.signed.issuer }
     requires key { TellsKey (HasAuthorityKey child.now) key.now }
     ensures first { TellsFirst (IsAnchorAbove child.now) anchors.now result }
 {
     for (place, anchor) in anchors.iter().enumerate() {
-        if is_anchor_above(child, key, anchor) {
+        if is_anchor_above(child, issuer, key, anchor) {
             return Some(place);
         }
     }
@@ -187,11 +202,12 @@ fn step_up(
     let Some(child) = certs.get(place) else {
         return Ok(Above::Nothing);
     };
+    let issuer = child.issuer();
     let key = authority_key(alloc, child)?;
-    if let Some(anchor) = first_anchor_above(child, &key, anchors) {
+    if let Some(anchor) = first_anchor_above(child, issuer, &key, anchors) {
         return Ok(Above::Anchor(anchor));
     }
-    match first_above(alloc, child, &key, certs)? {
+    match first_above(alloc, child, issuer, &key, certs)? {
         Some(next) => Ok(Above::Certificate(next)),
         None => Ok(Above::Nothing),
     }
@@ -226,9 +242,9 @@ fn climb(
 /// The path from the signer up to a trust anchor (RFC 5280, section 6.1), which is the only one that
 /// `PathOf` describes. `NoAnchor` exactly where there is none.
 ///
-/// Goes through the certificates once, and once more for each member of the path, and reads the
-/// extensions of a certificate at most once each time, of a self-issued one twice. Memory is kept for
-/// the members alone.
+/// Goes through the certificates once, and once more for each member of the path. Each time it reads
+/// each certificate at most once, and its extensions at most once; those of a member once more, as a
+/// child. Memory is kept for the members alone.
 pub fn find_path(
     alloc: Global,
     sid: &Sid<'_>,

@@ -1,13 +1,13 @@
 // HSS in certificates.
 ghost use Rattle.std.specs.Prelude.{◌≡◌, ◌↔◌, Some, IsTrue, bytes_eq};
 ghost use Rattle.cert_fields.specs.Algorithms.{signature_algorithm};
-ghost use Rattle.cert_fields.specs.View.{certificate_view};
+ghost use Rattle.cert_fields.specs.View.{bits_view, certificate_view};
 ghost use Rattle.hss_chain.specs.declared.key.HssKey.{HssKey};
-ghost use Rattle.path_check.specs.HssCertificate.{IsKeyOf, IsSignedBy};
+ghost use Rattle.path_check.specs.HssCertificate.{IsKeyOf, IsSignedBy, IsSignedOver};
 ghost use Rattle.path_check.specs.Members.{IsCertOfText};
 
-use cert_fields::Cert;
 use cert_fields::algorithms::HSS_LMS;
+use cert_fields::{Bits, Cert};
 use hss_chain::{HssKey, hss_check, hss_key};
 
 // The header of an OCTET STRING of 60 octets (X.690, section 8.7).
@@ -35,13 +35,36 @@ pub(crate) fn key_of(cert: &Cert<'_>) -> Option<HssKey>
     }
 }
 
+/// Whether the octets are signed by the key, in a structure that names the algorithm twice, as a
+/// certificate and a revocation list do (RFC 5280, sections 4.1.1 and 5.1.1): both times HSS/LMS without
+/// parameters (RFC 9708), with no unused bits, and the signature holds (RFC 8554, section 6.3).
+/// Verifies only where the others hold.
+pub fn is_signed_over(
+    key: &HssKey,
+    inner: &[u8],
+    outer: &[u8],
+    signature: &Bits<'_>,
+    octets: &[u8],
+) -> bool
+    ensures exact { IsTrue result
+        ↔ IsSignedOver key.now inner.now outer.now (bits_view signature.now) octets.now }
+{
+    is_hss(inner)
+        && is_hss(outer)
+        && signature.unused == 0
+        && hss_check(key, octets, &[], signature.octets)
+}
+
 // Whether the certificate is signed by the key.
 pub(crate) fn is_signed_by(key: &HssKey, cert: &Cert<'_>) -> bool
     requires text { IsCertOfText cert.now }
     ensures exact { IsTrue result ↔ IsSignedBy key.now (certificate_view cert.now) }
 {
-    is_hss(cert.signed.algorithm)
-        && is_hss(cert.algorithm)
-        && cert.signature.unused == 0
-        && hss_check(key, cert.tbs, &[], cert.signature.octets)
+    is_signed_over(
+        key,
+        cert.signed.algorithm,
+        cert.algorithm,
+        &cert.signature,
+        cert.tbs,
+    )
 }

@@ -14,8 +14,10 @@ const DIGITAL_SIGNATURE: u32 = 0;
 
 const KEY_CERT_SIGN: u32 = 5;
 
-// Whether this bit of keyUsage is set, where keyUsage is there.
-fn may_be_used(extensions: &Extensions<'_>, bit: u32) -> bool
+/// Whether a certificate with these extensions may be used as this bit of keyUsage says: the bit is set,
+/// or there is no keyUsage. Bit 0 is digitalSignature, 5 is keyCertSign and 6 is cRLSign (RFC 5280,
+/// section 4.2.1.3).
+pub fn may_be_used(extensions: &Extensions<'_>, bit: u32) -> bool
     requires bit { bit < 16 }
     ensures used { IsTrue result ↔ MayBeUsed bit extensions.now }
 {

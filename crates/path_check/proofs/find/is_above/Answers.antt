@@ -8,9 +8,9 @@ use Rattle.path_check.proofs.find.is_above.Goals as goal
 
 pub returns-in-Some : goal.returns-in-Some
 returns-in-Some c =
-    let child = c.args.child.now in
+    let child = c.args._child.now in
     let candidate = c.args.candidate.now in
-    let names = sym c.subject.ensures.subject ∙ not_different c.subject.result.now c.issuer.result.now c.ne.result c.ne.ensures c.if-ne.false ∙ c.issuer.ensures.issuer in
+    let names = sym c.subject.ensures.subject ∙ not_different c.subject.result.now c.args.issuer.now c.ne.result c.ne.ensures c.if-ne.false ∙ c.requires.issuer in
     let told = subst (TellsKey (HasAuthorityKey child)) c.in-Some.is c.requires.key in
     record {
       above =
@@ -22,11 +22,11 @@ returns-in-Some c =
 
 pub returns-in-None : goal.returns-in-None
 returns-in-None c =
-    let child = c.args.child.now in
+    let child = c.args._child.now in
     let candidate = c.args.candidate.now in
     record {
       above =
           above_none child candidate
-          (sym c.subject.ensures.subject ∙ not_different c.subject.result.now c.issuer.result.now c.ne.result c.ne.ensures c.if-ne.false ∙ c.issuer.ensures.issuer)
+          (sym c.subject.ensures.subject ∙ not_different c.subject.result.now c.args.issuer.now c.ne.result c.ne.ensures c.if-ne.false ∙ c.requires.issuer)
           (subst (TellsKey (HasAuthorityKey child)) c.in-None.is c.requires.key);
     }
