@@ -164,11 +164,11 @@ has_input source source' input P was p =
 
 -- ---- the flash of a command that writes none
 
-cut_leaves_cells : (m : Meaning) {tc : Type 0} (left : Option (List ℕ)) (start : View) → WritesNoFlash m
-    → (image s : List ℕ) → CutLeaves m tc left start.cells start.blocks image s → image ≡ start.cells
-cut_leaves_cells m left start none image s (inl h) = h.1
-cut_leaves_cells m left start none image s (inr x) = ⊎_elim (λ early. (none x.0 start.cells image).0 early.1)
-    (λ later. (none x.0 start.cells image).1 later.0) x.2
+pub cut_leaves_cells : (m : Meaning) {tc : Type 0} (left : Option (List ℕ)) (start : List ℕ) (count : ℕ)
+    → WritesNoFlash m → (image s : List ℕ) → CutLeaves m tc left start count image s → image ≡ start
+cut_leaves_cells m left start count none image s (inl h) = h.1
+cut_leaves_cells m left start count none image s (inr x) =
+    ⊎_elim (λ early. (none x.0 start image).0 early.1) (λ later. (none x.0 start image).1 later.0) x.2
 
 leaves_flash : (m : Meaning) {tc tm : Type 0} (source source' : Supply) (start new : View) → WritesNoFlash m
     → (status : Status) → (tc → new.cells ≡ start.cells)
@@ -178,7 +178,7 @@ leaves_flash m {tc} source source' start new none status cells moments = record 
   cells = cells;
   only_image = λ told settled.
       leaves_weaker start new (Sending start (CutLeaves m tc source.left start.cells start.blocks)) (λ image s. image ≡ start.cells)
-      (moments told settled) (λ image q h. cut_leaves_cells m source.left start none image h.1 h.4);
+      (moments told settled) (λ image q h. cut_leaves_cells m source.left start.cells start.blocks none image h.1 h.4);
 }
 
 -- ---- causes

@@ -8,6 +8,8 @@ pub mod ExplainLemmas
 pub mod SigningLemmas
 pub mod CommandLemmas
 pub mod RehearsalLemmas
+pub mod NoFlash
 pub mod OneAnswer
 pub mod TripleLaws
 pub mod UnopenedLemmas
+pub mod RoundLemmas

@@ -57,7 +57,7 @@ one_key one image first second holds other =
     (key_board second (row_of (leaf_count second) image)) (holds, refl) (other, refl))
 
 -- a signing key has few leaves
-few_leaves : (kind : LmsKind) → height kind ≤ 10 → 2 ^ height kind ≤ 1024
+pub few_leaves : (kind : LmsKind) → height kind ≤ 10 → 2 ^ height kind ≤ 1024
 few_leaves H5 low = omega arith
 few_leaves H10 low = omega arith
 few_leaves H15 low = absurd (omega (arith, low))
@@ -183,7 +183,7 @@ no_bad_line Package input (Packs plan) n recipe bad = package_has_no_bad_line in
 
 -- ---- what a power cut leaves is a signing run
 
-abbrev run_of : List ℕ → List ℕ → List ℕ → SigningRun
+abbrev pub run_of : List ℕ → List ℕ → List ℕ → SigningRun
 run_of cells image s = record { start = cells; sent = s; left = image }
 
 module _ (one : (image : List ℕ) → HasOneKey image) (p : Product) {tc : Type 0} (told : tc) (left : Option (List ℕ))

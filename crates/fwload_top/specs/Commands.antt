@@ -1,12 +1,12 @@
 -- What each command promises of a run.
-use Rattle.std.specs.Prelude.{ℕ}
+use Rattle.std.specs.Prelude.{ℕ, List, Option}
 use Rattle.fwload_top.specs.declared.words.Command.{Command}
 use Rattle.fwload_top.specs.declared.words.Command.TheVariants as commands
 use Rattle.fwload_top.specs.Status.{IsFinished}
 use Rattle.fwload_top.specs.Seen.{Seen}
 use Rattle.fwload_top.specs.HasCauses.{Undisturbed}
 use Rattle.fwload_top.specs.Meaning.{Meaning, input_limit}
-use Rattle.fwload_top.specs.AnswersOnce.{AnswersOnce, IsReady}
+use Rattle.fwload_top.specs.AnswersOnce.{AnswersOnce, IsReady, CutLeaves}
 use Rattle.fwload_top.specs.Ident.{ident}
 use Rattle.fwload_top.specs.Sigcheck.{sigcheck}
 use Rattle.fwload_top.specs.Rehearse.{rehearse}
@@ -22,6 +22,8 @@ pub record Promise : Type 1 where
   pub limit : ℕ
   pub Runs : Seen → Type 0
   pub Ready : Seen → Type 0
+  -- over what the source had left, these cells and so many blocks, a power cut leaves this image, and these octets sent
+  pub Cut : Type 0 → Option (List ℕ) → List ℕ → ℕ → List ℕ → List ℕ → Type 0
 
 -- Over the board and the input that it needs, and where no call failed, the command is done, or memory was wanting.
 abbrev pub Completes : Promise → Seen → Type 0
@@ -29,7 +31,7 @@ Completes p r = p.Ready r → Undisturbed r → IsFinished r.status
 
 -- of a command that answers once
 abbrev pub once : Meaning → Promise
-once m = record { limit = input_limit; Runs = AnswersOnce m; Ready = IsReady m }
+once m = record { limit = input_limit; Runs = AnswersOnce m; Ready = IsReady m; Cut = CutLeaves m }
 
 abbrev pub promise : Command → Promise
 promise commands.Ident = once ident

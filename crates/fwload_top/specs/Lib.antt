@@ -6,6 +6,7 @@ pub mod AnswersOnce
 pub mod Commands
 pub mod Words
 pub mod Input
+pub mod KeyRounds
 pub mod Reply
 pub mod Ident
 pub mod Sigcheck

@@ -1,7 +1,10 @@
 // Laws of the definitions, which no call computes.
-ghost use Rattle.std.specs.Prelude.{◌≡◌, ◌⊎◌, ℕ, Bool, List, Option};
+ghost use Rattle.std.specs.Prelude.{◌≡◌, ◌⊎◌, ℕ, ◌<◌, Bool, List, Option, flat_map, AllPairs};
+ghost use Rattle.std.specs.List.{AllZip};
 ghost use Rattle.lms_sign.specs.declared.key.SignKey.{SignKey};
+ghost use Rattle.lms_sign.specs.PublicKeys.{leaf_count};
 ghost use Rattle.packager.specs.SigningRuns.{Output, Signs};
+ghost use Rattle.packager.specs.BoardRuns.{BoardRun, AreBoardRuns, leaf_used};
 ghost use Rattle.bank_layout.specs.Recovery.{HoldsKey};
 ghost use Rattle.package_rules.specs.Module.{Module};
 ghost use Rattle.config_table.specs.State.{State};
@@ -17,9 +20,11 @@ ghost use Rattle.fwload_top.specs.Explain.{explain};
 ghost use Rattle.fwload_top.specs.AnswersOnce.{CutLeaves};
 ghost use Rattle.fwload_top.specs.declared.signing.Product.{Product};
 ghost use Rattle.fwload_top.specs.Signing.{signing, SignsNothing};
+ghost use Rattle.fwload_top.specs.KeyRounds.{Round, AreRounds, IsRunOfRound};
 
 use bank_layout::each_image_has_one_holder;
 use edge_board::Board;
+use packager::laws::no_leaf_signs_twice;
 
 /// A law: a set has one verdict at most over a state, and an input has one answer of `rehearse`.
 pub fn one_rehearsal()
@@ -41,8 +46,7 @@ pub fn no_flash_is_written()
 
 /// A law: whatever moment of `issue` or `pack` a power cut falls into, on a board that a key holds, the
 /// key still holds it, and the cells are as they were at the start with no signed octet sent, or the
-/// run so far is one that signs with the key's next leaf. Over all such runs `no_leaf_signs_twice` of
-/// `packager` is said.
+/// run so far is one that signs with the key's next leaf.
 pub fn cuts_leave_signing_runs<B: Board>()
     ensures runs { B.tells_cells → (p : Product) (left : Option (List ℕ)) (cells : List ℕ) (count : ℕ)
         → (key : SignKey) → HoldsKey cells key → (image s : List ℕ)
@@ -54,4 +58,21 @@ pub fn cuts_leave_signing_runs<B: Board>()
         → CutLeaves (signing p) B.tells_cells left cells count image s → HoldsKey image key }
 {
     each_image_has_one_holder();
+}
+
+/// A law: whatever runs of the program a key's board goes through, and power cuts in them, each is a
+/// run that signs with a leaf of the key, or one that leaves the board and sends nothing signed
+/// (`runs`), and each leaf with which any octet was sent has a greater number than those before it
+/// (`ascends`). So no two outputs of which any octet was sent have the same leaf (RFC 8554, section
+/// 9.2).
+pub fn no_leaf_is_used_twice<B: Board>()
+    ensures runs { B.tells_cells → (key : SignKey) (image : List ℕ) (rounds : List Round)
+        → HoldsKey image key → AreRounds B.tells_cells image rounds
+        → (runs : List BoardRun) × AreBoardRuns key image runs × AllZip IsRunOfRound rounds runs }
+    ensures ascends { (key : SignKey) (image : List ℕ) (runs : List BoardRun) → HoldsKey image key
+        → AreBoardRuns key image runs
+        → AllPairs (λ earlier later. earlier < later) (flat_map (leaf_used (leaf_count key)) runs) }
+{
+    each_image_has_one_holder();
+    no_leaf_signs_twice();
 }

@@ -34,8 +34,9 @@
 //! - `issue` and `pack` send the certificate and the package whose recipe the input is, signed with
 //!   the next leaf of the key that holds the board (RFC 5280, section 4.1; RFC 4108, section 2). What a
 //!   power cut at any moment of them leaves is a run that signs with that leaf, or one that signs
-//!   nothing: that is the law `cuts_leave_signing_runs` (`runs`, `holds`), and over all such runs
-//!   `no_leaf_signs_twice` of `packager` is said.
+//!   nothing: that is the law `cuts_leave_signing_runs` (`runs`, `holds`). Over every list of runs of
+//!   all commands over a key's board, and power cuts in them, no two outputs of which any octet was
+//!   sent have the same leaf: that is the law `no_leaf_is_used_twice` (`runs`, `ascends`).
 //! - `ident`, `sigcheck`, `rehearse`, `list` and `explain` write no flash: that is the law
 //!   `no_flash_is_written`.
 //!
@@ -79,7 +80,9 @@ mod unopened;
 mod words;
 
 pub use dispatch::run;
-pub use laws::{cuts_leave_signing_runs, no_flash_is_written, one_rehearsal};
+pub use laws::{
+    cuts_leave_signing_runs, no_flash_is_written, no_leaf_is_used_twice, one_rehearsal,
+};
 pub use making::{HolderKind, NewHolder};
 pub use signing::Product;
 pub use status::Status;

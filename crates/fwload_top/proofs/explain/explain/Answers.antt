@@ -1,4 +1,4 @@
-use Rattle.std.proofs.Common.{List, ℕ, refl, subst, sym}
+use Rattle.std.proofs.Common.{List, ℕ, subst, sym}
 use Rattle.module_store.specs.Store.{IsStoreOf}
 use Rattle.module_store.specs.declared.fault.OpenFault.TheVariants as faults
 use Rattle.fwload_top.specs.Explain.{explain}

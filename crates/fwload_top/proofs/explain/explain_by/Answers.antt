@@ -3,8 +3,7 @@ use Rattle.module_store.specs.Store.{manifest_of}
 use Rattle.config_table.specs.Stored.{lengths}
 use Rattle.judge_core.specs.Verdicts.{bench}
 use Rattle.fwload_top.specs.Reply.{Replies}
-use Rattle.fwload_top.specs.Standing.{StandsAt}
-use Rattle.fwload_top.specs.Explain.{explain, Explains, answer_status}
+use Rattle.fwload_top.specs.Explain.{explain, Explains}
 use Rattle.fwload_top.specs.Explain.Outcome.{explained}
 use Rattle.fwload_top.proofs.ExplainLemmas.{has_line}
 use Rattle.fwload_top.proofs.StandingLemmas.{stands_at}

@@ -1,5 +1,5 @@
-use Rattle.std.proofs.Common.{Option, inl, inr, subst}
-use Rattle.judge_core.specs.Granted.{PathGrant, Grants, IsTold}
+use Rattle.std.proofs.Common.{inl, inr, subst}
+use Rattle.judge_core.specs.Granted.{Grants, IsTold}
 use Rattle.fwload_top.proofs.explain.front_of.Goals as goal
 
 pub returns-in_ok-path_lines-in-Some : goal.returns-in_ok-path_lines-in-Some
