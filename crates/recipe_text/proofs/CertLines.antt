@@ -15,7 +15,7 @@ use Rattle.recipe_text.proofs.Recipes.{one_more, no_more}
 
 -- ---- kinds
 
-named_kind : (kind : CertKind) → kind_named (kind_name kind) ≡ Some kind
+pub named_kind : (kind : CertKind) → kind_named (kind_name kind) ≡ Some kind
 unfolding kind_named
 named_kind kinds.Serial = refl
 named_kind kinds.Issuer = refl
@@ -46,7 +46,7 @@ kind_is name k e =
     one_of kind_name name (codes "constraint") kinds.Constraint k _ refl e (λ e.
     one_of kind_name name (codes "hardware") kinds.Hardware k None refl e (λ e. absurd (none-some k e)))))))))))))
 
-no_space : (kind : CertKind) → Without 32 (kind_name kind)
+pub no_space : (kind : CertKind) → Without 32 (kind_name kind)
 no_space kinds.Serial = without 32 (kind_name kinds.Serial) refl
 no_space kinds.Issuer = without 32 (kind_name kinds.Issuer) refl
 no_space kinds.Subject = without 32 (kind_name kinds.Subject) refl
@@ -76,7 +76,7 @@ name_is (Hardware hw_type serial) = refl
 
 -- ---- lines
 
-by_kind : (line : List ℕ) (e : CertEntry) → IsCertLine line e
+pub by_kind : (line : List ℕ) (e : CertEntry) → IsCertLine line e
     → (text : List ℕ) × IsCertValue text e × (line ≡ kind_name (kind_of e) ++ 32 ∷ text)
 by_kind line e h = (h.0, h.1, h.2 ∙ ap (λ (n : List ℕ). n ++ 32 ∷ h.0) (name_is e))
 

@@ -1,12 +1,13 @@
 -- A certificate recipe has one plan, for which there is room.
-use Rattle.std.proofs.Common.{◌≡◌, ℕ, ◌^◌, ◌≤◌, List, [], ◌∷◌, ◌++◌, length, Option, Some, None}
+use Rattle.std.proofs.Common.{◌≡◌, ℕ, ◌^◌, ◌-◌, ◌<◌, ◌≤◌, List, [], ◌∷◌, ◌++◌, length, Option, Some, None}
 use Rattle.std.proofs.Common.{refl, sym, ◌∙◌, ap, subst, arith, length-append}
 use Rattle.std.specs.Prelude.{IfSome, ◌↔◌, codes}
 use Rattle.std.specs.Str.Parse.{AllDigits}
 use Rattle.std.proofs.lemmas.Fmt.{decimal_is_IsNumeral_wide}
 use Rattle.std.proofs.lemmas.Str.Parse.{digit_from_value}
 use Rattle.packager.specs.declared.certificate_plan.Authority.{Authority}
-use Rattle.std.specs.List.{AllByRecursion}
+use Rattle.std.specs.List.{AllByRecursion, flat_map}
+use Rattle.std.proofs.lemmas.List.Concat.{flat_map-append}
 use Rattle.std.specs.Option.{option_to_list}
 use Rattle.std.proofs.lemmas.Option.{none-some}
 use Rattle.der_core.proofs.Numbers.{some_is}
@@ -96,26 +97,40 @@ subject_short : (line : List ℕ) (e : CertEntry) → IsCertLine line e
 subject_short line (Subject name) h = (omega (arith, name_size h.0 name h.1), tt)
 subject_short line e h = tt
 
+-- each one twice
+abbrev twice : List (List ℕ) → List (List ℕ)
+twice texts = flat_map (λ text. text ∷ text ∷ []) texts
+
+twice_all : {E : Type 0} (part : E → List (List ℕ)) (es : List E)
+    → flat_map (λ e. twice (part e)) es ≡ twice (flat_map part es)
+twice_all part [] = refl
+twice_all part (e ∷ es) =
+    ap (λ (l : List (List ℕ)). twice (part e) ++ l) (twice_all part es)
+    ∙ sym (flat_map-append (λ (text : List ℕ). text ∷ text ∷ []) (part e) (flat_map part es))
+
 constraint_size : (line : List ℕ) (e : CertEntry) → IsCertLine line e
-    → length (joined (cert_part e).constraints) ≤ length line
+    → length (joined (twice (cert_part e).constraints)) ≤ length line
 constraint_size line (Constraint octets) h =
     let word : line ≡ cert_name (Constraint octets) ++ 32 ∷ h.0 = h.2 in
     omega (
       arith,
       hex_size h.0 octets h.1.hex,
+      length-append octets (octets ++ []),
       length-append octets [],
       ap length word,
       length-append (cert_name (Constraint octets)) (32 ∷ h.0),
     )
 constraint_size line e h = omega arith
 
-may_be_long : (o : Option (List ℕ)) (n : ℕ) → length (joined (option_to_list o)) ≤ n → n ≤ 2 ^ 31
+may_be_long : (o : Option (List ℕ)) (n : ℕ) → length (joined (twice (option_to_list o))) ≤ n → n < 2 ^ 32
     → IfSome o (λ text. length text ≤ 2 ^ 31)
 may_be_long None n few small = tt
-may_be_long (Some text) n few small = omega (arith, few, small, length-append text [])
+may_be_long (Some text) n few small =
+    omega (arith, few, small, length-append text (text ++ []), length-append text [])
 
 -- The constraints of a text below 2^32 octets have half as many at most.
-pub plan_short : (text : List ℕ) (plan : CertificatePlan) → length text ≤ 2 ^ 31 → CertRecipe text plan → IsShort plan
+pub plan_short : (text : List ℕ) (plan : CertificatePlan) → length text < 2 ^ 32 - 1 → CertRecipe text plan
+    → IsShort plan
 plan_short text plan small r = record {
   serial = (subst (AllByRecursion (λ o. length o ≤ 2 ^ 16)) (ap (λ (p : CertParts). p.serials) r.2)
       (recipe_all cert_rules (λ o. length o ≤ 2 ^ 16) (λ e. (cert_part e).serials) serial_short text r.0 r.1)).0;
@@ -125,14 +140,17 @@ plan_short text plan small r = record {
       (recipe_all cert_rules (λ o. length o ≤ 2 ^ 16) (λ e. (cert_part e).subjects) subject_short text r.0 r.1)).0;
   constraints =
       may_be_long plan.constraints (length text)
-      (subst (λ (l : List (List ℕ)). length (joined l) ≤ length text) (ap (λ (p : CertParts). p.constraints) r.2)
-      (recipe_size cert_rules (λ e. (cert_part e).constraints) constraint_size text r.0 r.1)) small;
+      (subst (λ (l : List (List ℕ)). length (joined l) ≤ length text)
+      (twice_all (λ (e : CertEntry). (cert_part e).constraints) r.0
+      ∙ ap (λ (p : CertParts). twice p.constraints) r.2)
+      (recipe_size cert_rules (λ e. twice (cert_part e).constraints) constraint_size text r.0 r.1))
+      (omega (arith, small));
 }
 
 -- ---- `-`
 
 -- `-` is no number
-dash_no_number : (n : ℕ) → IsNumber (45 ∷ []) n → ⊥
+pub dash_no_number : (n : ℕ) → IsNumber (45 ∷ []) n → ⊥
 dash_no_number n h =
     let digits = (decimal_is_IsNumeral_wide n (omega (arith, h.0))).0.1 in
     let first = (subst (AllDigits 10) (sym h.1) digits).0 in

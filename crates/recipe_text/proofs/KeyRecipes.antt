@@ -16,13 +16,23 @@ use Rattle.recipe_text.proofs.KeyLines.{one_key}
 
 -- ---- what the contract asks, by what is known
 
-closed : IsClosed IsOneAtMost
+pub closed : IsClosed IsOneAtMost
 closed front back h = omega (arith, h, length-append front back)
 
 two_keys : (lines : List (List ℕ)) (k l : SignKey) → AllZip IsKeyLine lines (k ∷ [])
     → AllZip IsKeyLine lines (l ∷ []) → k ≡ l
 two_keys [] k l x y = absurd x
 two_keys (line ∷ lines) k l x y = one_key line k l x.0 y.0
+
+-- a text is a recipe of one key
+pub one_key_recipe : (text : List ℕ) (key other : SignKey) → KeyRecipe text key → KeyRecipe text other → key ≡ other
+one_key_recipe text key other r s =
+    let lines = one_text text r.0 s.0 [] [] r.1 s.1 in
+    two_keys (kept s.0) key other (subst (λ (l : List (List ℕ)). AllZip IsKeyLine (kept l) (key ∷ [])) lines.0 r.2) s.2
+
+-- and has no first bad line then
+pub key_has_no_bad_line : (text : List ℕ) (key : SignKey) (n : ℕ) → KeyRecipe text key → FirstBadKeyLine text n → ⊥
+key_has_no_bad_line text key n r bad = recipe_good closed text n (key ∷ []) r bad
 
 ok_is : (k l : SignKey) → ◌≡◌ {A = Result SignKey BadLine} (Ok k) (Ok l) → k ≡ l
 ok_is k l same = ap (λ (r : Result SignKey BadLine). elim r [ Ok x ↦ x | Err e ↦ k ]) same

@@ -23,3 +23,5 @@ mod Sizes
 mod Taking
 mod Texts
 mod WordLemmas
+pub mod OneSaid
+pub mod CertOne

@@ -72,11 +72,11 @@ decimal_without c n low small = digits_without c (decimal n) low (decimal_is_IsN
 -- ---- components behind the first two
 
 -- what stands behind the dot before them
-rest_of : List ℕ → Option (List ℕ)
+pub rest_of : List ℕ → Option (List ℕ)
 rest_of [] = None
 rest_of (s ∷ ss) = Some (decimal s ++ others ss)
 
-is_rest : (ss : List ℕ) → others ss ≡ tail_text (rest_of ss)
+pub is_rest : (ss : List ℕ) → others ss ≡ tail_text (rest_of ss)
 unfolding rest_of
 is_rest [] = refl
 is_rest (s ∷ ss) = refl
@@ -96,7 +96,7 @@ next_one text front rest (s ∷ ss) f small e =
     (sym f.parts ∙ behind ∙ ap (λ (t : List ℕ). decimal s ++ t) (is_rest ss)) in
     (s, ss, (small.0, same.0), small.1, ap tail_text same.1 ∙ sym (is_rest ss))
 
-one_others : (ss ts : List ℕ) → AreSmall ss → AreSmall ts → others ss ≡ others ts → ss ≡ ts
+pub one_others : (ss ts : List ℕ) → AreSmall ss → AreSmall ts → others ss ≡ others ts → ss ≡ ts
 one_others [] [] x y e = refl
 one_others [] (t ∷ ts) x y e = absurd cc
 one_others (s ∷ ss) [] x y e = absurd cc
@@ -343,7 +343,7 @@ single (x ∷ y ∷ ys) e = absurd (omega (arith, e))
 
 -- ---- the whole
 
-one_first : (word : List ℕ) (s t : ℕ) (r q : Option (List ℕ)) → FirstOf word s r → FirstOf word t q
+pub one_first : (word : List ℕ) (s t : ℕ) (r q : Option (List ℕ)) → FirstOf word s r → FirstOf word t q
     → (s ≡ t) × (r ≡ q)
 one_first word s t r q x y =
     let p = parts_of s in
@@ -362,7 +362,7 @@ one_first word s t r q x y =
     )
 
 -- an identifier's word has a first subidentifier, and others behind it
-word_parts : (word id : List ℕ) → IsOidWord word id
+pub word_parts : (word id : List ℕ) → IsOidWord word id
     → (s : ℕ) × (ss : List ℕ) × FirstOf word s (rest_of ss) × AreSmall ss × (id ≡ subidentifier s ++ oid_contents ss)
 word_parts word id w = by w.numbers w.small w.contents w.spelled
   where

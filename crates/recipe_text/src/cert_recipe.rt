@@ -1,4 +1,4 @@
-ghost use Rattle.std.specs.Prelude.{◌^◌, ◌≤◌, length, IfOk};
+ghost use Rattle.std.specs.Prelude.{◌-◌, ◌^◌, ◌<◌, length, IfOk};
 ghost use Rattle.packager.specs.CertificatePlan.{IsShort, plan_view};
 ghost use Rattle.recipe_text.specs.Answer.{Gives, Refuses};
 ghost use Rattle.recipe_text.specs.CertRecipe.{CertRecipe, FirstBadCertLine};
@@ -13,7 +13,7 @@ use std::alloc::Global;
 /// line. Elements have room for it, so that it can be issued. It takes memory for what is said, and
 /// no more than that while it reads.
 pub fn read_cert_recipe(alloc: Global, text: &[u8]) -> Result<CertPlan, RecipeFault>
-    requires fits { length text.now ≤ 2 ^ 26 }
+    requires fits { length text.now < 2 ^ 32 - 1 }
     ensures good { Gives plan_view result (CertRecipe text.now) }
     ensures bad { Refuses result (FirstBadCertLine text.now) }
     ensures short { IfOk result (λ plan. IsShort (plan_view plan)) }

@@ -11,10 +11,14 @@
 //!   `specs/ModuleRecipe.antt`. The module is within its limits (`valid`), and its record has 65,536
 //!   octets at most (`short`).
 //!
-//! So a text is either a recipe of one plan or has one first bad line, and never both: that is the law
-//! `recipes_have_no_bad_line` (`certificates`, `packages`, `modules`). Nothing is said where memory is
-//! wanting. Key recipes take none; of the others each HEX is decoded once, into its place in what is
-//! answered.
+//! So a text is either a recipe or has one first bad line, and never both: those are the laws
+//! `recipes_have_no_bad_line` (`certificates`, `packages`, `modules`, `keys`) and
+//! `recipes_say_one_thing`, by which a text has one first bad line at most (`key_lines`,
+//! `certificate_lines`, `package_lines`, `module_lines`) and is a recipe of one key and of one
+//! certificate at most (`keys`, `certificates`). `recipes_give_plans` is the law that what a certificate
+//! is to say has texts that are read back, and that what a package is to say is within its limits
+//! (`certificates`, `packages`). Nothing is said where memory is wanting. Key recipes take none; of the
+//! others each HEX is decoded once, into its place in what is answered.
 //!
 //! Below it stand `packager`, with what certificates and packages can say, `cert_fields`, which reads
 //! constraints and certificates and has the trust anchors, `der_write`, by which names are made,
@@ -22,8 +26,8 @@
 //! key, `hex`, with the hex digits of either case, and `memchr`, which finds the ends of lines and
 //! words. Above it stand the commands that read recipes.
 //!
-//! Limits: a key recipe has fewer than 2^32 - 1 octets, so that each line has a number, and the
-//! others have at most 2^26.
+//! Limits: a recipe has fewer than 2^32 - 1 octets, so that each line has a number, and a package
+//! recipe at most 2^26, as the certificates of a package have together.
 #![tactic(auto)]
 
 mod anchor_line;
@@ -50,6 +54,8 @@ mod words;
 pub use bad_line::{BadLine, RecipeFault};
 pub use cert_recipe::read_cert_recipe;
 pub use key_recipe::read_key_recipe;
-pub use laws::{package_recipes_have_texts, recipes_have_no_bad_line};
+pub use laws::{
+    package_recipes_have_texts, recipes_give_plans, recipes_have_no_bad_line, recipes_say_one_thing,
+};
 pub use module_recipe::read_module_recipe;
 pub use package_recipe::read_package_recipe;

@@ -1,4 +1,4 @@
-ghost use Rattle.std.specs.Prelude.{◌≤◌, ◌^◌, length, IfOk};
+ghost use Rattle.std.specs.Prelude.{◌-◌, ◌^◌, ◌<◌, ◌≤◌, length, IfOk};
 ghost use Rattle.module_record.specs.ModuleRecord.{HasLimits, module_text};
 ghost use Rattle.recipe_text.specs.Answer.{Gives, Refuses};
 ghost use Rattle.recipe_text.specs.ModuleRecipe.{ModuleRecipe, FirstBadModuleLine};
@@ -13,7 +13,7 @@ use std::alloc::Global;
 /// its limits, and its record has at most 65,536 octets. Each HEX is decoded once, into its place in
 /// the module.
 pub fn read_module_recipe(alloc: Global, text: &[u8]) -> Result<Module, RecipeFault>
-    requires fits { length text.now ≤ 2 ^ 26 }
+    requires fits { length text.now < 2 ^ 32 - 1 }
     ensures good { Gives (λ made. made) result (ModuleRecipe text.now) }
     ensures bad { Refuses result (FirstBadModuleLine text.now) }
     ensures valid { IfOk result HasLimits }
