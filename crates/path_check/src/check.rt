@@ -1,7 +1,7 @@
 // The check of a path.
-ghost use Rattle.std.specs.Prelude.{◌≡◌, ◌<◌, Some, IfOk, length, map, slice_get};
+ghost use Rattle.std.specs.Prelude.{◌≡◌, ◌<◌, Some, IfOk, OnOk, length, map, slice_get};
 ghost use Rattle.std.specs.List.{AllByRecursion};
-ghost use Rattle.der_core.specs.Asked.{FirstFail};
+ghost use Rattle.der_core.specs.Asked.{AllHold, FirstFail};
 ghost use Rattle.cert_fields.specs.Anchor.{TrustAnchor};
 ghost use Rattle.constraint_meet.specs.Grants.{of_path};
 ghost use Rattle.hss_chain.specs.declared.key.HssKey.{HssKey};
@@ -163,4 +163,59 @@ pub fn check_path<'a>(
         unreachable!();
     };
     check_under(alloc, certs, &path.members, anchor, &anchor_key, &at)
+}
+
+// Asks the conditions of the members at these places under their anchor.
+fn check_members<'a>(
+    alloc: Global,
+    certs: &'a [KeptCert<'a>],
+    places: &[usize],
+    anchor: &Anchor,
+    anchor_key: &HssKey,
+    at: &Moment,
+) -> Result<(), PathFault>
+    requires within { AllByRecursion (λ place. place < length certs.now) places.now }
+    requires only { IsOnlyKey anchor.now anchor_key.now }
+    ensures sound { let members = members_at certs.now places.now in
+        OnOk result (AllHold (path_conditions at.now anchor.now members)) }
+    ensures fails { let members = members_at certs.now places.now in
+        FailsFirst result (path_conditions at.now anchor.now members) }
+{
+    let Some(members) = read_members(alloc, certs, places)? else {
+        return Err(PathFault::Fails(Condition::numbered(23)));
+    };
+    match first_failure(&members, anchor_key, at) {
+        Some(failed) => Err(PathFault::Fails(failed)),
+        None => Ok(()),
+    }
+}
+
+/// Checks the certificates of a path at a moment as `check_path` does, and asks nothing of what they
+/// permit: no index of their constraints is made.
+///
+/// Memory is taken for the extensions of the members, of which there are at most eight.
+pub fn check_certificates<'a>(
+    alloc: Global,
+    certs: &'a [KeptCert<'a>],
+    anchors: &[Anchor],
+    path: &Path,
+    at: Moment,
+) -> Result<(), PathFault>
+    requires path { (name : SignerIdentifier)
+        × PathOf name certs.now anchors.now path.now }
+    requires keys { AllByRecursion (λ anchor. (key : HssKey) × IsAnchorKey anchor key) anchors.now }
+    ensures sound { let members = members_at certs.now path.now.members in
+        (anchor : TrustAnchor) → slice_get anchors.now path.now.anchor ≡ Some anchor
+        → OnOk result (AllHold (path_conditions at anchor members)) }
+    ensures fails { let members = members_at certs.now path.now.members in
+        (anchor : TrustAnchor) → slice_get anchors.now path.now.anchor ≡ Some anchor
+        → FailsFirst result (path_conditions at anchor members) }
+{
+    let Some(anchor) = anchors.get(path.anchor) else {
+        unreachable!();
+    };
+    let Some(anchor_key) = hss_key(anchor.key()) else {
+        unreachable!();
+    };
+    check_members(alloc, certs, &path.members, anchor, &anchor_key, &at)
 }

@@ -14,6 +14,8 @@
 //!   certificates stand above one another, HSS keys, and signatures. Where none fails it hands on the
 //!   signer's key, the anchor's key identifier, and what the path permits, which is what every
 //!   certificate of it and the anchor permit (`ok`; `IsChecked` of `specs/Checked`).
+//!   `check_certificates` asks the same conditions, and nothing of what the path permits (`sound`,
+//!   `fails`).
 //! - `is_signed_over` says whether octets are signed by a key (`exact`; `IsSignedOver`, of which a
 //!   certificate's `IsSignedBy` is one case), and `may_be_used` whether keyUsage lets a certificate be
 //!   used for one purpose (`used`).
@@ -44,7 +46,7 @@ mod path;
 mod rules;
 mod soundness;
 
-pub use check::{PathFault, PathView, check_path};
+pub use check::{PathFault, PathView, check_certificates, check_path};
 pub use find::{FindFault, find_path};
 pub use hss::is_signed_over;
 pub use laws::{
