@@ -9,7 +9,8 @@
 //! - `Unsigned` is a text with room for its signature: the octets before it, those that are signed, and
 //!   how many it has. `Unsigned::new` makes one (`parts`).
 //! - `finish` puts the signature of a key with a spent leaf behind the octets (`octets`). It takes no
-//!   memory, and as a leaf is taken by value, none signs twice.
+//!   memory, and as a leaf is taken by value, none signs twice. `finish_by_tree` does the same with a key
+//!   that keeps the nodes of its tree (`octets`), which stays that key (`unchanged`).
 //! - `begin_element` begins an element whose last octets come later (`text`), `together` puts octets one
 //!   behind the other (`ok`), and `put_algorithm` appends the algorithm of HSS/LMS (`ok`).
 //!
@@ -28,12 +29,14 @@
 
 mod algorithms;
 mod attributes;
+mod by_tree;
 mod draft;
 mod fronts;
 mod message;
 mod unsigned;
 
 pub use algorithms::put_algorithm;
+pub use by_tree::finish_by_tree;
 pub use draft::Draft;
 pub use fronts::{begin_element, together};
 pub use message::begin_message;
