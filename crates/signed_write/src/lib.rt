@@ -10,7 +10,8 @@
 //! - `Unsigned` is a text with room for its signature: the octets before it, those that are signed, and
 //!   how many it has. `Unsigned::new` makes one (`parts`).
 //! - `finish` puts the signature of a key with a spent leaf behind the octets (`octets`). It takes no
-//!   memory, and as a leaf is taken by value, none signs twice.
+//!   memory, and as a leaf is taken by value, none signs twice. `finish_by_tree` does the same with a key
+//!   that keeps the nodes of its tree (`octets`), which stays that key (`unchanged`).
 //! - `push_attribute` appends exactly the text of an attribute with one value to a list of them,
 //!   `push_content_type` that of the content's type, whatever the type is, and `push_message_digest` that
 //!   of the content's digest (`ok`), each with an upper bound (`most`). `put_algorithm` appends the
@@ -35,6 +36,7 @@
 
 mod algorithms;
 mod attributes;
+mod by_tree;
 mod draft;
 mod fronts;
 mod message;
@@ -42,6 +44,7 @@ mod unsigned;
 
 pub use algorithms::put_algorithm;
 pub use attributes::{push_attribute, push_content_type, push_message_digest};
+pub use by_tree::finish_by_tree;
 pub use draft::Draft;
 pub use fronts::{begin_element, together};
 pub use message::begin_message;

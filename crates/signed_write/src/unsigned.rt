@@ -23,8 +23,8 @@ pub(crate) struct Places {
 /// 5280, section 4.1) and in signed data of one signer (RFC 5652, section 5.3).
 #[derive(Drop)]
 pub struct Unsigned {
-    octets: Vec<u8>,
-    places: Places,
+    pub(crate) octets: Vec<u8>,
+    pub(crate) places: Places,
 }
 
 impl Model for Unsigned {
