@@ -15,10 +15,10 @@
 //! `recipes_have_no_bad_line` (`certificates`, `packages`, `modules`, `keys`) and
 //! `recipes_say_one_thing`, by which a text has one first bad line at most (`key_lines`,
 //! `certificate_lines`, `package_lines`, `module_lines`) and is a recipe of one key and of one
-//! certificate at most (`keys`, `certificates`). `recipes_give_plans` is the law that what a certificate
-//! is to say has texts that are read back, and that what a package is to say is within its limits
-//! (`certificates`, `packages`). Nothing is said where memory is wanting. Key recipes take none; of the
-//! others each HEX is decoded once, into its place in what is answered.
+//! certificate at most (`keys`, `certificates`). `recipes_give_plans` is the law that what a
+//! certificate is to say has texts that are read back, and that what a package is to say is within
+//! its limits (`certificates`, `packages`). Nothing is said where memory is wanting. Key recipes take
+//! none; of the others each HEX is decoded once, into its place in what is answered.
 //!
 //! Below it stand `packager`, with what certificates and packages can say, `cert_fields`, which reads
 //! constraints and certificates and has the trust anchors, `der_write`, by which names are made,
