@@ -18,7 +18,7 @@ const RECORD: &[u8] =
     \x00\x00\x00\x00\x00\x00\x00\x00\x00\x00\x00\x00\x00\x00\x00\x00\
     \x04\x10\x00\x00\x00\x00\x00\x00\x00\x00\x00\x00\x00\x00\x00\x00\x00\x00";
 
-fn owner(alloc: Global) -> Option<Module> {
+pub(crate) fn owner(alloc: Global) -> Option<Module> {
     match read_module(alloc, RECORD) {
         Ok(Some(owner)) => Some(owner),
         _ => None,

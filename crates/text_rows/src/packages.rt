@@ -68,7 +68,7 @@ fn plan(alloc: Global, key: &SignKey) -> Option<CertPlan>
 }
 
 // The first leaf of a key with 32 leaves.
-fn first_leaf(alloc: Global) -> Option<Leaf>
+pub(crate) fn first_leaf(alloc: Global) -> Option<Leaf>
     ensures below { IfSome result (λ leaf. leaf < 32) }
 {
     match SureBoard::new(alloc, 18) {
