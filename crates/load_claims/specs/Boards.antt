@@ -24,7 +24,8 @@ pub record Loads (m : Module) (at : ℕ) (start end : Standing) (items : List (L
   pub sent : Sent old new (answers m start verdicts)
   pub found : Recovers new.cells (module_board m end)
 
--- A power cut at any moment since old leaves a prefix of what is installed and sent, and no leaf but those it may.
+-- A power cut at any moment since old leaves what `Kept` says: the store after a front of the items, a front of their
+-- answers, and no leaf spent but for these.
 abbrev pub CutsKeep : Module → ℕ → Standing → List (List ℕ) → View → View → Type 0
 CutsKeep m at start items old new = LeavesOnly old new (Sending old (KeptIn m at start items))
 

@@ -18,7 +18,8 @@ AreExact m at now (item ∷ items) (verdict ∷ verdicts) =
 
 -- The image recovers to the module, with the images and stale entries that a prefix of the packages accepted by these
 -- verdicts makes: it holds each one whose receipt was sent whole, and at most one more. The packages are accepted exactly
--- where they are admitted.
+-- where they are admitted. (`Keeps` says more: which item the one more is, and that it is there from the first octet of its
+-- answer on.)
 pub record FindsPrefix (m : Module) (at : ℕ) (start : Standing) (items : List (List ℕ)) (verdicts : List Verdict)
     (image s : List ℕ) : Type 0 where
   pub exact : AreExact m at start items verdicts

@@ -58,7 +58,7 @@ after now (accepts described content image key_id) = record {
 after now (refuses number name) = record {
   sequence = now.sequence;
   state = now.state;
-  row = if nat_le 30 number then use_in now.row else now.row;
+  row = if uses_leaf (refuses number name) then use_in now.row else now.row;
 }
 
 -- ---- items one after the other

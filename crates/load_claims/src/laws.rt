@@ -26,8 +26,8 @@ pub fn no_items_are_without_verdicts()
     no_item_is_without_a_verdict();
 }
 
-/// A law: items have one list of verdicts, and so one list of answers, and one thing that stands on the
-/// board after them.
+/// A law: items have one list of verdicts of each length at most, and so one list of answers, and one thing
+/// that stands on the board after them.
 pub fn one_list_of_verdicts()
     ensures same { (m : Module) (at : ℕ) (start : Standing) (items : List (List ℕ))
         (some other : List Verdict) → Judged m at start items some → Judged m at start items other
@@ -70,8 +70,10 @@ pub fn kept_of_all_items()
 /// accepted exactly where its bytes derive and its signatures, path constraints and the module's rules
 /// all admit it.
 ///
-/// A law. `run` is of what one run leaves at any moment, over the verdicts on its first items; `all` says
-/// that it then holds over the verdicts on all of them; `life` is of a module's whole life.
+/// A law. `run` is of what a power cut leaves of one run (`KeptIn`), over the verdicts on its first items;
+/// `all` says that it then holds over the verdicts on all of them; `life` is of a module's whole life. That
+/// each cut of a run on a board leaves such a thing is `any_moment` of `items_follow_each_other`, from the
+/// `CutsKeep` that a loader promises. What accepts is the verdict, and that code finds it is `judge`'s clause.
 pub fn headline()
     ensures run { (m : Module) (at : ℕ) (start : Standing) (items : List (List ℕ)) (image s : List ℕ)
         → KeptIn m at start items image s → (verdicts : List Verdict)
@@ -83,6 +85,7 @@ pub fn headline()
     ensures life { (m : Module) (first : List ℕ) (rounds : List Round) → Life m first rounds
         → (to : Standing) × Recovers (last_image first rounds) (module_board m to)
         × (to.state ≡ made_by (flat_map installed_in rounds) empty_state)
+        × (to.sequence ≡ sum_by installs rounds)
         × AllByRecursion InstallsReceiptsOrOneMore rounds
         × AllByRecursion (AreExactIn m) rounds }
 {

@@ -7,14 +7,16 @@
 //!   no two signed answers of which any octet was sent have one leaf (RFC 8554, section 9.2).
 //! - `one_item_carries_to_the_list`, `kept_of_all_items` and `cuts_are_rounds` carry what is known of one
 //!   item to the list, of the first items to all of them, and of one run to a life.
-//! - `no_items_are_without_verdicts` and `one_list_of_verdicts`: items have a list of verdicts, and one.
+//! - `no_items_are_without_verdicts` and `one_list_of_verdicts`: it is refuted that items have no list of
+//!   verdicts, and they have one at most.
 //! - The laws over boards (`moments`) carry one item through the steps of a loader: its content is
 //!   stored, its package installed, its leaf spent, its answer sent; and then from item to item.
 //!
 //! Items, verdicts and answers stand in specs/Items, what a power cut may leave in specs/Kept, a life in
 //! specs/Lives, the headline in specs/Headline. specs/Inside is a bridge for proofs, and nothing of it has
 //! to be believed. Below stand the verdict (`judge_core`), recovery (`bank_layout`) and the texts of answers
-//! (`receipt_writer`, `answer_write`); the loader above promises `CutsKeep` and `Loads` of specs/Boards.
+//! (`receipt_writer`, `answer_write`); a loader is to promise `CutsKeep` and `Loads` of
+//! specs/Boards, and no crate does yet.
 #![tactic(auto)]
 
 mod laws;

@@ -1,3 +1,4 @@
+use Rattle.std.proofs.Common.{arith}
 use Rattle.load_claims.specs.Lives.{last_image, fresh}
 use Rattle.load_claims.proofs.Living.{Ends}
 use Rattle.load_claims.proofs.Below.{finds_prefix, finds_of_all, life_ends, life_exact, one_standing}
@@ -12,4 +13,4 @@ returns-clause-all c = finds_of_all c.one_verdict_each.ensures c.accepted_is_adm
 pub returns-clause-life : goal.returns-clause-life
 returns-clause-life c = λ m first rounds life.
     let e : Ends (one_standing c.each_image_has_one_holder.ensures.one) m (fresh m) (last_image first rounds) rounds = life_ends c.each_image_has_one_holder.ensures.one m first rounds life in
-    (e.to, e.found, e.state, e.each, life_exact c.accepted_is_admitted.ensures m first rounds life)
+    (e.to, e.found, e.state, omega (arith, e.sequence), e.each, life_exact c.accepted_is_admitted.ensures m first rounds life)
