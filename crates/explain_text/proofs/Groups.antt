@@ -22,7 +22,7 @@ lt_index Less = refl
 lt_index Equal = refl
 lt_index Greater = refl
 
-le_index : (o : Ordering) → is_le o ≡ leb (ordering_index o) 1
+pub le_index : (o : Ordering) → is_le o ≡ leb (ordering_index o) 1
 le_index Less = refl
 le_index Equal = refl
 le_index Greater = refl
@@ -55,7 +55,7 @@ lt_le Less less up = false≢true (sym up)
 lt_le Equal less up = false≢true less
 lt_le Greater less up = false≢true less
 
-equal : (a b : List ℕ) → a ≡ b → slice_cmp nat_cmp a b ≡ Equal
+pub equal : (a b : List ℕ) → a ≡ b → slice_cmp nat_cmp a b ≡ Equal
 equal a b is = subst (λ t. slice_cmp nat_cmp a t ≡ Equal) is (tied_itself nat_list_cmp_total a)
 
 one_of : {X : Type 0} (xs : List X) → 0 < length xs → X

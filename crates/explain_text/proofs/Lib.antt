@@ -1,9 +1,11 @@
 pub mod Elements
+pub mod Covering
 pub mod Searched
 pub mod Orders
 pub mod Texts
 pub mod Entries
 pub mod Groups
+pub mod Numbered
 pub mod AddedTypes
 pub mod Shares
 pub mod Permitted

@@ -14,19 +14,24 @@
 //!   names (`decides`, `sources`).
 //!
 //! Below it stand `constraint_meet`, with what is permitted, `cert_fields`, with the constraints in
-//! place, and `report_text`, with the lines of identifiers and conditions.
+//! place, `package_attrs`, with package identifiers and hardware types, and `report_text`, with the
+//! lines of identifiers and conditions.
 //!
 //! Content types, types of attributes and values are sorted, and looked up in what is sorted: for
 //! each content type the lines take a look-up in each member, and then n log n time in the sizes of
-//! the entries that decide for it. Values of firmwarePackageID and targetHardwareIDs alone are
-//! compared each with each. Memory is linear in the constraints and in the lines: some 90 octets for
-//! each entry, and, for one content type at a time, as much for each constrained attribute and 32
-//! for each listed value. The lines can be as many as the content types times the values of an entry
-//! for any content. No clause says what a call costs.
+//! the entries that decide for it. A listed package identifier is found by its preferred name and
+//! version. A value of one hardware type is found by that type; one of several is compared with each
+//! listed value that has the type which the fewest have, by a look-up for each type. Memory is linear
+//! in the constraints and in the lines: some 90 octets for each entry, and, for one content type at a
+//! time, as much for each constrained attribute, 32 for each listed value, and 96 for each preferred
+//! name and each hardware type in them. The lines can be as many as the content types times the values
+//! of an entry for any content. No clause says what a call costs.
 #![tactic(auto)]
 
 mod grant;
 mod group;
+mod hardware;
+mod keys;
 mod laws;
 mod listed;
 mod member;
@@ -36,6 +41,7 @@ mod sources;
 mod types;
 mod values;
 mod verdict;
+mod versions;
 
 pub use grant::put_grant;
 pub use laws::{lines_tell_what_is_permitted, one_grant_text, other_stands_for_the_rest};
