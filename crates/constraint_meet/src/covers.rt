@@ -23,8 +23,8 @@ fn is_target_hardware(kind: &[u8]) -> bool
     kind == TARGET_HARDWARE_IDS.as_slice()
 }
 
-/// Whether a listed value of this type of attributes covers itself alone.
-pub fn is_by_octets(kind: &[u8]) -> bool
+// Whether a listed value of this type of attributes covers itself alone.
+pub(crate) fn is_by_octets(kind: &[u8]) -> bool
     ensures octets { result ≡ is_by_octets kind.now }
 {
     !is_package_id(kind) && !is_target_hardware(kind)
@@ -38,9 +38,9 @@ fn covers(kind: &[u8], listed: &[u8], value: &[u8]) -> bool
         || is_target_hardware(kind) && targets_cover(listed, value)
 }
 
-/// Whether one of the values that are listed, in the contents of this SET, covers the value of an
-/// attribute of this type. Compares it with each of them.
-pub fn one_covers(kind: &[u8], listed: &[u8], value: &[u8]) -> bool
+// Whether one of the values that are listed, in the contents of this SET, covers the value of an
+// attribute of this type. Compares it with each of them.
+pub(crate) fn one_covers(kind: &[u8], listed: &[u8], value: &[u8]) -> bool
     requires elements { IsTrue (are_elements listed.now) }
     ensures covered { result
         ≡ list_any (λ one. covers kind.now one value.now) (values_in listed.now) }

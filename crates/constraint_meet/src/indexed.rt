@@ -14,6 +14,7 @@ ghost use Rattle.constraint_meet.specs.Tests.{passes};
 use crate::listed::Listed;
 use crate::places::{Part, find_place};
 use cert_fields::{Ccc, CccEntry};
+use der_core::laws::slice_is_octets;
 use der_core::{Attr, Cursor, tags};
 use std::marker::Model;
 
@@ -38,11 +39,6 @@ impl<'a> Model for Indexed<'a> {
     ghost invariant = { λ i. AreIndexed i.ccc i.kinds.items i.values.items };
 }
 
-// Octets are octets.
-fn are_octets(octets: &[u8])
-    ensures { AreOctets octets.now }
-{}
-
 // The values that stand behind the type at a place, and how many octets follow them.
 #[tactic(auto, unfolding(crate::specs::Index::listed_at))]
 fn listed_at(octets: &[u8], place: u32) -> Option<(&[u8], usize)>
@@ -64,7 +60,7 @@ impl<'a> Indexed<'a> {
         ensures types { AllByRecursion HasOwnTypes self.now }
     {
         let octets = self.ccc.entries().rest();
-        are_octets(octets);
+        slice_is_octets(octets);
         octets
     }
 
@@ -116,8 +112,8 @@ impl<'a> Indexed<'a> {
         ensures tells { IsTrue result
             ↔ Passes (entry_view entry.now) (attribute_view attribute.now) }
     {
-        are_octets(self.octets());
-        are_octets(attribute.values);
+        slice_is_octets(self.octets());
+        slice_is_octets(attribute.values);
         match self.listed(entry, after, attribute.kind.octets()) {
             Some(listed) => listed.covers_each(attribute.values),
             None => true,

@@ -13,8 +13,6 @@
 //!   so, and permits exactly where every certificate and the anchor do (`path` of `side_by_side`). A
 //!   certificate without the extension permits nothing, an anchor without it everything.
 //! - `Grant::member_count` and `Grant::constraints_at` give the members back (`count`, `found`).
-//! - `one_covers` tells whether a listed value covers another, and `is_by_octets` whether equality
-//!   alone decides at a type of attributes.
 //! - `laws` says that the tests tell the facts (`tests_tell`), that the values of a SET are its
 //!   elements (`values_are_elements`), and that an entry of the type itself decides whatever that of
 //!   any content type says (`own_entry_decides`).
@@ -47,7 +45,6 @@ mod listed;
 mod member;
 mod places;
 
-pub use covers::{is_by_octets, one_covers};
 pub use grant::{Grant, grant_of, permits};
 pub use joined::meet;
 pub use member::ANY_CONTENT;

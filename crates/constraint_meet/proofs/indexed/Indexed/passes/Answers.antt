@@ -23,7 +23,7 @@ returns-in-Some-clause-tells c =
     (sym (returns-in-Some-clause-exact c))
     (passes_tells (entry_view c.args.entry.now) (attribute_view c.args.attribute.now)
     (list_octets c.args.self.now (entry_view c.args.entry.now) c.args.after c.requires.stands
-    (subst AreOctets c.octets.ensures.text c.octets.ensures.octets)) c.are_octets-2.ensures)
+    (subst AreOctets c.octets.ensures.text c.octets.ensures.octets)) c.slice_is_octets-2.ensures)
 
 pub returns-in-None-clause-exact : goal.returns-in-None-clause-exact
 returns-in-None-clause-exact c =
@@ -37,4 +37,4 @@ returns-in-None-clause-tells c =
     (sym (returns-in-None-clause-exact c))
     (passes_tells (entry_view c.args.entry.now) (attribute_view c.args.attribute.now)
     (list_octets c.args.self.now (entry_view c.args.entry.now) c.args.after c.requires.stands
-    (subst AreOctets c.octets.ensures.text c.octets.ensures.octets)) c.are_octets-2.ensures)
+    (subst AreOctets c.octets.ensures.text c.octets.ensures.octets)) c.slice_is_octets-2.ensures)
