@@ -1,32 +1,23 @@
 // HSS in certificates.
-ghost use Rattle.std.specs.Prelude.{◌≡◌, ◌↔◌, Some, IsTrue, bytes_eq};
-ghost use Rattle.cert_fields.specs.Algorithms.{signature_algorithm};
+ghost use Rattle.std.specs.Prelude.{◌≡◌, ◌↔◌, Some, IsTrue};
 ghost use Rattle.cert_fields.specs.View.{bits_view, certificate_view};
 ghost use Rattle.hss_chain.specs.declared.key.HssKey.{HssKey};
 ghost use Rattle.path_check.specs.HssCertificate.{IsKeyOf, IsSignedBy, IsSignedOver};
 ghost use Rattle.path_check.specs.Members.{IsCertOfText};
 
-use cert_fields::algorithms::HSS_LMS;
+use cert_fields::algorithms::is_hss_lms;
 use cert_fields::{Bits, Cert};
 use hss_chain::{HssKey, hss_check, hss_key};
 
 // The header of an OCTET STRING of 60 octets (X.690, section 8.7).
 const KEY_HEADER: &[u8] = b"\x04\x3c";
 
-// Whether an algorithm is HSS without parameters.
-#[tactic(auto, unfolding(der_core::specs::Element::enc, der_core::specs::Element::length_octets))]
-fn is_hss(algorithm: &[u8]) -> bool
-    ensures { result ≡ bytes_eq algorithm.now signature_algorithm }
-{
-    algorithm == HSS_LMS.as_slice()
-}
-
 // The HSS key of the certificate, as its octets or in an OCTET STRING.
 pub(crate) fn key_of(cert: &Cert<'_>) -> Option<HssKey>
     ensures exact { (key : HssKey) → (result ≡ Some key) ↔ IsKeyOf (certificate_view cert.now) key }
 {
     let bits = &cert.signed.key;
-    if !is_hss(cert.signed.key_algorithm) || bits.unused != 0 {
+    if !is_hss_lms(cert.signed.key_algorithm) || bits.unused != 0 {
         return None;
     }
     match bits.octets.strip_prefix(KEY_HEADER) {
@@ -49,8 +40,8 @@ pub fn is_signed_over(
     ensures exact { IsTrue result
         ↔ IsSignedOver key.now inner.now outer.now (bits_view signature.now) octets.now }
 {
-    is_hss(inner)
-        && is_hss(outer)
+    is_hss_lms(inner)
+        && is_hss_lms(outer)
         && signature.unused == 0
         && hss_check(key, octets, &[], signature.octets)
 }

@@ -18,8 +18,7 @@ returns-in-Some c =
     record {
       exact =
           key_in_string certificate
-          ((bytes_eq-Decides certificate.signed.key_algorithm signature_algorithm).0 (sym c.is_hss.ensures ∙ c.if-not-is_hss.false))
-          c.if-bits-ne0.false c.in-Some.octets.now c.hss_key.result
+          (c.is_hss_lms.ensures.exact.0 c.if-not-is_hss_lms.false) c.if-bits-ne0.false c.in-Some.octets.now c.hss_key.result
           (subst (λ r. MatchOption r ((rest : List ℕ) → octets ≢ header ++ rest) (λ x. octets ≡ header ++ x.now))
           c.in-Some.is (strip_prefix_is Decides-eqb octets header c.strip_prefix.result c.strip_prefix.ensures.cases))
           (record {
@@ -36,8 +35,7 @@ returns-in-None c =
     record {
       exact =
           key_as_it_is certificate
-          ((bytes_eq-Decides certificate.signed.key_algorithm signature_algorithm).0 (sym c.is_hss.ensures ∙ c.if-not-is_hss.false))
-          c.if-bits-ne0.false c.hss_key-in-None.result
+          (c.is_hss_lms.ensures.exact.0 c.if-not-is_hss_lms.false) c.if-bits-ne0.false c.hss_key-in-None.result
           (subst (λ r. MatchOption r ((rest : List ℕ) → octets ≢ header ++ rest) (λ x. octets ≡ header ++ x.now))
           c.in-None.is (strip_prefix_is Decides-eqb octets header c.strip_prefix.result c.strip_prefix.ensures.cases))
           (record {
