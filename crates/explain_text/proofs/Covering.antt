@@ -1,7 +1,7 @@
 -- Which value a listed one covers beside itself.
 use Rattle.std.proofs.Common.{◌≡◌, ◌<◌, ◌≤◌, ◌+◌, ℕ, zero, suc, Bool, true, false, ◌&&◌, ◌||◌, List, [], ◌∷◌, ◌++◌, length, map}
 use Rattle.std.proofs.Common.{Bor, Option, Some, None, refl, sym, ap, ap₂, subst, ◌∙◌, arith, inl, inr, append_assoc, drop}
-use Rattle.std.specs.Prelude.{Contains, IsPermutation, bytes_eq, is_some, nat_eq, nat_le, slice_index_or}
+use Rattle.std.specs.Prelude.{Contains, IsPermutation, bytes_eq, nat_eq, nat_le, slice_index_or}
 use Rattle.std.specs.Bool.{Decides}
 use Rattle.std.specs.List.{AllByRecursion, list_all, list_any}
 use Rattle.std.specs.Option.{unwrap_or}

@@ -1,7 +1,7 @@
 -- What is kept while the lines are made: entries and attributes, in order. Nothing here has to be believed: no public
 -- clause names it.
-use Rattle.std.specs.Prelude.{◌≡◌, ◌↔◌, ℕ, List, Contains, IsPermutation, bytes_eq, map}
-use Rattle.std.specs.List.{IsDistinct}
+use Rattle.std.specs.Prelude.{◌≡◌, ◌↔◌, ℕ, List, ◌++◌, Contains, IsPermutation, bytes_eq, map}
+use Rattle.std.specs.List.{IsDistinct, flat_map}
 use Rattle.std.specs.List.Sorted.{IsSortedBy}
 use Rattle.std.specs.Cmp.Lexicographic.{slice_cmp}
 use Rattle.std.specs.Ordering.{nat_cmp, is_lt}
@@ -11,6 +11,8 @@ use Rattle.cert_fields.specs.Constraints.{ContentConstraint}
 use Rattle.cert_fields.specs.ConstraintsView.{entry_view}
 use Rattle.cert_fields.specs.declared.entries.CccEntry.{CccEntry}
 use Rattle.constraint_meet.specs.Permits.{any_content, values_in, IsCovered}
+use Rattle.explain_text.specs.GrantText.{value_text}
+use Rattle.explain_text.specs.Ordered.{AreExactly}
 
 -- the content types don't descend
 abbrev pub AscendByContent : List CccEntry → Type 0
@@ -41,3 +43,8 @@ pub record IsOfEach (attributes : List Attribute) (value : List ℕ) : Type 0 wh
   pub one : Contains attributes attribute
   pub listed : Contains (values_in attribute.values) value
   pub covered : (other : Attribute) → Contains attributes other → IsCovered other value
+
+-- behind these octets come the values that all of these attributes allow
+abbrev pub AddsValues : List Attribute → List ℕ → List ℕ → Type 0
+AddsValues attributes before after =
+    (values : List (List ℕ)) × AreExactly (IsOfEach attributes) values × (after ≡ before ++ flat_map value_text values)

@@ -10,19 +10,20 @@ ghost use Rattle.explain_text.specs.Ordered.{Adds, AreTexts};
 
 use crate::group::group_of;
 use crate::member::{Member, members_of};
+use crate::memo::Memo;
 use crate::sources::{constrained_by, in_order, kinds_of};
 use crate::types::own_types;
-use crate::values::push_kind;
 use constraint_meet::{ANY_CONTENT, Grant};
 use der_core::{Attr, Oid};
 use report_text::push_oid;
 use std::alloc::{AllocError, Global};
 
 // The line of each of these types of attributes, among attributes in order.
-fn push_each_kind(
+fn push_each_kind<'a>(
     alloc: Global,
     text: &mut String,
-    attributes: &[Attr<'_>],
+    memo: &mut Memo<'a>,
+    attributes: &[Attr<'a>],
     kinds: &[Oid],
 ) -> Result<(), AllocError>
     requires ordered { AscendByKind attributes.now }
@@ -30,19 +31,24 @@ fn push_each_kind(
         (string_bytes text.old) (string_bytes text.new)) }
 {
     for kind in kinds {
-        push_kind(alloc, text, kind, group_of(attributes, kind.octets()))?;
+        memo.push_kind(alloc, text, kind, group_of(attributes, kind.octets()))?;
     }
     Ok(())
 }
 
 // The lines of all types of these attributes.
-fn push_kinds(alloc: Global, text: &mut String, attributes: Vec<Attr<'_>>) -> Result<(), AllocError>
+fn push_kinds<'a>(
+    alloc: Global,
+    text: &mut String,
+    memo: &mut Memo<'a>,
+    attributes: Vec<Attr<'a>>,
+) -> Result<(), AllocError>
     ensures ok { OnOk result (Adds (AreKindLines (map attribute_view attributes.entry.items))
         (string_bytes text.old) (string_bytes text.new)) }
 {
     let attributes = in_order(attributes);
     let kinds = kinds_of(alloc, &attributes)?;
-    push_each_kind(alloc, text, &attributes, &kinds)
+    push_each_kind(alloc, text, memo, &attributes, &kinds)
 }
 
 // A word with the space behind it, a name, and the end of the line.
@@ -56,10 +62,11 @@ fn push_named(text: &mut String, word: &str, name: &str) -> Result<(), AllocErro
 }
 
 // The lines of a content type under this name.
-fn push_type(
+fn push_type<'a>(
     alloc: Global,
     text: &mut String,
-    members: &[Member<'_>],
+    memo: &mut Memo<'a>,
+    members: &[Member<'a>],
     content: &[u8],
     name: &str,
 ) -> Result<(), AllocError>
@@ -69,17 +76,19 @@ fn push_type(
     match constrained_by(alloc, members, content)? {
         Some(attributes) => {
             push_named(text, "allow ", name)?;
-            push_kinds(alloc, text, attributes)
+            memo.turn_to(alloc, members, content)?;
+            push_kinds(alloc, text, memo, attributes)
         }
         None => push_named(text, "deny ", name),
     }
 }
 
 // The lines of a content type that is named.
-fn push_own_type(
+fn push_own_type<'a>(
     alloc: Global,
     text: &mut String,
-    members: &[Member<'_>],
+    memo: &mut Memo<'a>,
+    members: &[Member<'a>],
     content: &Oid,
 ) -> Result<(), AllocError>
     ensures ok { OnOk result (Adds (AreLinesOf members.now content.now)
@@ -87,21 +96,22 @@ fn push_own_type(
 {
     let mut name = String::new(alloc);
     push_oid(alloc, &mut name, content)?;
-    push_type(alloc, text, members, content.octets(), &name)
+    push_type(alloc, text, memo, members, content.octets(), &name)
 }
 
 // Those of each of these content types.
-fn push_types(
+fn push_types<'a>(
     alloc: Global,
     text: &mut String,
-    members: &[Member<'_>],
+    memo: &mut Memo<'a>,
+    members: &[Member<'a>],
     types: &[Oid],
 ) -> Result<(), AllocError>
     ensures ok { OnOk result (Adds (AreTexts (AreLinesOf members.now) types.now)
         (string_bytes text.old) (string_bytes text.new)) }
 {
     for content in types {
-        push_own_type(alloc, text, members, content)?;
+        push_own_type(alloc, text, memo, members, content)?;
     }
     Ok(())
 }
@@ -112,9 +122,10 @@ fn text_of(alloc: Global, grant: &Grant<'_>) -> Result<String, AllocError>
 {
     let members = members_of(alloc, grant)?;
     let types = own_types(alloc, &members)?;
+    let mut memo = Memo::new(alloc, &members)?;
     let mut text = String::new(alloc);
-    push_types(alloc, &mut text, &members, &types)?;
-    push_type(alloc, &mut text, &members, &ANY_CONTENT, "other")?;
+    push_types(alloc, &mut text, &mut memo, &members, &types)?;
+    push_type(alloc, &mut text, &mut memo, &members, &ANY_CONTENT, "other")?;
     Ok(text)
 }
 

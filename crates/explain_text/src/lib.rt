@@ -35,6 +35,7 @@ mod keys;
 mod laws;
 mod listed;
 mod member;
+mod memo;
 mod ordered;
 mod path;
 mod sources;

@@ -110,7 +110,7 @@ impl<'a> Member<'a> {
     }
 
     // The entry of a content type.
-    fn entry_for(&self, content: &[u8]) -> Option<&CccEntry<'a>>
+    pub(crate) fn entry_for(&self, content: &[u8]) -> Option<&CccEntry<'a>>
         ensures exact { Answers (λ e. entry_view e.now) result (entry_for content.now self.now) }
     {
         find_entry(&self.ordered, content)

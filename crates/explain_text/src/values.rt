@@ -1,17 +1,17 @@
-// The values that all lists for a type of attributes cover, and the line of that type.
-ghost use Rattle.std.specs.Prelude.{◌≡◌, ◌++◌, List, ℕ, Contains, IfOk, OnOk, map, string_bytes};
+// The values that all lists for a type of attributes cover.
+ghost use Rattle.std.specs.Prelude.{◌≡◌, ◌++◌, Contains, IfOk, OnOk, map, string_bytes};
 ghost use Rattle.std.specs.List.{filter, flat_map, list_all};
 ghost use Rattle.der_core.specs.AttributeView.{attribute_view};
 ghost use Rattle.constraint_meet.specs.Permits.{values_in};
 ghost use Rattle.constraint_meet.specs.Tests.{is_covered};
-ghost use Rattle.explain_text.specs.GrantText.{value_text, kind_line};
-ghost use Rattle.explain_text.specs.Kept.{IsOfEach};
+ghost use Rattle.explain_text.specs.GrantText.{value_text};
+ghost use Rattle.explain_text.specs.Kept.{AddsValues};
 ghost use Rattle.explain_text.specs.Ordered.{AreExactly, lent};
 
 use crate::listed::{Listed, all_listed, push_values};
 use crate::ordered::put_in_order;
-use der_core::{Attr, Oid};
-use report_text::{push_hex, push_oid};
+use der_core::Attr;
+use report_text::push_hex;
 use std::alloc::{AllocError, Global};
 
 // All values that are listed, in ascending order, each once.
@@ -64,30 +64,16 @@ fn push_covered(
     Ok(())
 }
 
-// The values of the line of attributes that are all of one type.
-fn push_shared(alloc: Global, text: &mut String, attributes: &[Attr<'_>]) -> Result<(), AllocError>
-    ensures ok { OnOk result ((values : List (List ℕ))
-        × AreExactly (IsOfEach (map attribute_view attributes.now)) values
-        × (string_bytes text.new ≡ string_bytes text.old ++ flat_map value_text values)) }
+// Those of the lists of attributes that are all of one type.
+pub(crate) fn push_shared(
+    alloc: Global,
+    text: &mut String,
+    attributes: &[Attr<'_>],
+) -> Result<(), AllocError>
+    ensures ok { OnOk result (AddsValues (map attribute_view attributes.now)
+        (string_bytes text.old) (string_bytes text.new)) }
 {
     let listed = all_listed(alloc, attributes)?;
     let values = values_of(alloc, &listed)?;
     push_covered(alloc, text, &listed, &values)
-}
-
-// The line of a type of attributes, where these are all that are of it.
-pub(crate) fn push_kind(
-    alloc: Global,
-    text: &mut String,
-    kind: &Oid,
-    attributes: &[Attr<'_>],
-) -> Result<(), AllocError>
-    ensures ok { OnOk result ((values : List (List ℕ))
-        × AreExactly (IsOfEach (map attribute_view attributes.now)) values
-        × (string_bytes text.new ≡ string_bytes text.old ++ kind_line kind.now values)) }
-{
-    text.push_str("attr ")?;
-    push_oid(alloc, text, kind)?;
-    push_shared(alloc, text, attributes)?;
-    text.push('\n')
 }
