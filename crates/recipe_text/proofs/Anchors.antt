@@ -43,7 +43,7 @@ module _ (word octets : List ℕ) (is : decoded 60 word ≡ Some octets) where
 
 -- ---- CCC
 
-dash_is_no_hex : (word octets : List ℕ) → word ≡ codes "-" → IsHex word octets → ⊥
+pub dash_is_no_hex : (word octets : List ℕ) → word ≡ codes "-" → IsHex word octets → ⊥
 dash_is_no_hex word octets is hex = omega (arith, hex_size word octets hex, ap length is)
 
 pub dash_read : (word : List ℕ) → word ≡ codes "-" → Exactly (IsShortHex word) (Some None)
@@ -98,7 +98,7 @@ words_some text w e =
     ((cut_takes 32 name.0.1 id.0 id.1).1
     ∙ ap (λ (r : List ℕ). id.0.0 ++ 32 ∷ r) (cut_takes 32 id.0.1 key.0 key.1).1))
 
-words_again : (text : List ℕ) (a : TrustAnchor) (h : IsAnchorText text a)
+pub words_again : (text : List ℕ) (a : TrustAnchor) (h : IsAnchorText text a)
     → words_of text ≡ Some (record { name = h.name; id = h.id; key = h.key; constraints = h.constraints })
 unfolding words_of
 words_again text a h = ap words_of h.spelled ∙ rw (

@@ -26,7 +26,8 @@ use Rattle.recipe_text.proofs.Anchors.{name_tagged}
 use Rattle.recipe_text.proofs.CertLines.{named_kind, no_space, by_kind, line_value}
 use Rattle.recipe_text.proofs.CertPlans.{same_plan, plan_short}
 use Rattle.recipe_text.proofs.Cuts.{cut_again}
-use Rattle.recipe_text.proofs.OneSaid.{HaveOneText, one_hex, one_at, one_oid, one_path, one_use, one_pair, one_recipe}
+use Rattle.recipe_text.proofs.OneSaid.{HaveOneText, one_hex, one_hex64, one_at, one_oid, one_path, one_use, one_pair}
+use Rattle.recipe_text.proofs.OneSaid.{one_recipe}
 use Rattle.recipe_text.proofs.Oids.{oid_spaceless}
 use Rattle.recipe_text.proofs.Sizes.{recipe_all}
 
@@ -35,9 +36,6 @@ use Rattle.recipe_text.proofs.Sizes.{recipe_all}
 -- keys with one text are one
 abbrev pub KeysHaveOneText : Type 0
 KeysHaveOneText = (k l : HssKey) → IsHssKey k → IsHssKey l → hss_key_text k ≡ hss_key_text l → k ≡ l
-
-one_hex64 : (word a b : List ℕ) → IsHex64 word a → IsHex64 word b → a ≡ b
-one_hex64 word a b x y = one_hex word a b x.hex y.hex
 
 module _ (moments : HaveOneText) (keys : KeysHaveOneText) where
   one_value : (text : List ℕ) (e f : CertEntry) → kind_of e ≡ kind_of f → IsCertValue text e → IsCertValue text f → e ≡ f

@@ -25,3 +25,5 @@ mod Texts
 mod WordLemmas
 pub mod OneSaid
 pub mod CertOne
+pub mod ModuleOne
+pub mod PackageOne

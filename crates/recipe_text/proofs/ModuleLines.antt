@@ -15,7 +15,7 @@ use Rattle.recipe_text.proofs.Recipes.{one_more, no_more}
 
 -- ---- kinds
 
-named_kind : (kind : ModuleKind) → kind_named (kind_name kind) ≡ Some kind
+pub named_kind : (kind : ModuleKind) → kind_named (kind_name kind) ≡ Some kind
 unfolding kind_named
 named_kind kinds.HwType = refl
 named_kind kinds.Serial = refl
@@ -36,7 +36,7 @@ kind_is name k e =
     one_of kind_name name (codes "type") kinds.Type k _ refl e (λ e.
     one_of kind_name name (codes "anchor") kinds.Anchor k None refl e (λ e. absurd (none-some k e))))))))
 
-no_space : (kind : ModuleKind) → Without 32 (kind_name kind)
+pub no_space : (kind : ModuleKind) → Without 32 (kind_name kind)
 no_space kinds.HwType = without 32 (kind_name kinds.HwType) refl
 no_space kinds.Serial = without 32 (kind_name kinds.Serial) refl
 no_space kinds.Capacity = without 32 (kind_name kinds.Capacity) refl
@@ -56,7 +56,7 @@ name_is (Anchored anchor) = refl
 
 -- ---- lines
 
-by_kind : (line : List ℕ) (e : ModuleEntry) → IsModuleLine line e
+pub by_kind : (line : List ℕ) (e : ModuleEntry) → IsModuleLine line e
     → (text : List ℕ) × IsModuleValue text e × (line ≡ kind_name (kind_of e) ++ 32 ∷ text)
 by_kind line e h = (h.0, h.1, h.2 ∙ ap (λ (n : List ℕ). n ++ 32 ∷ h.0) (name_is e))
 

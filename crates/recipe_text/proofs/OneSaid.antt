@@ -13,7 +13,7 @@ use Rattle.recipe_text.specs.CertRecipe.{IsPathWord, uses_word}
 use Rattle.recipe_text.specs.Lines.{IsHex, kept, Rules, Recipe}
 use Rattle.recipe_text.specs.OidReading.{tail_text}
 use Rattle.recipe_text.specs.Reading.{cut}
-use Rattle.recipe_text.specs.Words.{IsAt, IsOidWord, IsPair}
+use Rattle.recipe_text.specs.Words.{IsAt, IsHex64, IsOidWord, IsPair}
 use Rattle.recipe_text.proofs.CertPlans.{dash_no_number}
 use Rattle.recipe_text.proofs.Cuts.{Without, cut_again}
 use Rattle.recipe_text.proofs.Decimals.{one_number}
@@ -27,6 +27,9 @@ ok_is a b e = cc
 
 pub one_hex : (word a b : List ℕ) → IsHex word a → IsHex word b → a ≡ b
 one_hex word a b x y = ok_is {F = FromHexError} a b (sym x.1 ∙ y.1)
+
+pub one_hex64 : (word a b : List ℕ) → IsHex64 word a → IsHex64 word b → a ≡ b
+one_hex64 word a b x y = one_hex word a b x.hex y.hex
 
 -- moments with one text are one
 abbrev pub HaveOneText : Type 0

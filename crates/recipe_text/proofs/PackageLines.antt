@@ -26,7 +26,7 @@ use Rattle.recipe_text.proofs.Recipes.{one_more, no_more}
 
 -- ---- kinds
 
-named_kind : (kind : PackageKind) → kind_named (kind_name kind) ≡ Some kind
+pub named_kind : (kind : PackageKind) → kind_named (kind_name kind) ≡ Some kind
 unfolding kind_named
 named_kind kinds.Package = refl
 named_kind kinds.Legacy = refl
@@ -61,7 +61,7 @@ kind_is name k e =
     one_of kind_name name (codes "wrap") kinds.Wrap k _ refl e (λ e.
     one_of kind_name name (codes "image") kinds.Image k None refl e (λ e. absurd (none-some k e)))))))))))))))
 
-no_space : (kind : PackageKind) → Without 32 (kind_name kind)
+pub no_space : (kind : PackageKind) → Without 32 (kind_name kind)
 no_space kinds.Package = without 32 (kind_name kinds.Package) refl
 no_space kinds.Legacy = without 32 (kind_name kinds.Legacy) refl
 no_space kinds.Stale = without 32 (kind_name kinds.Stale) refl
@@ -95,7 +95,7 @@ name_is (Image octets) = refl
 
 -- ---- lines
 
-by_kind : (line : List ℕ) (e : PackageEntry) → IsWorded line e
+pub by_kind : (line : List ℕ) (e : PackageEntry) → IsWorded line e
     → (text : List ℕ) × IsPackageValue text e × (line ≡ kind_name (kind_of e) ++ 32 ∷ text)
 by_kind line e h = (h.0, h.1, h.2 ∙ ap (λ (n : List ℕ). n ++ 32 ∷ h.0) (name_is e))
 

@@ -1,14 +1,11 @@
 -- Words are read exactly.
-use Rattle.std.proofs.Common.{◌≡◌, ℕ, ◌<◌, ◌≤◌, List, ◌++◌, length, Option, Some, None, Result, Ok, Err}
-use Rattle.std.proofs.Common.{refl, sym, ◌∙◌, ap, subst, arith, codes, Bool, length-append}
+use Rattle.std.proofs.Common.{◌≡◌, ℕ, ◌<◌, ◌≤◌, List, length, Option, Some, None, Result, Ok, Err}
+use Rattle.std.proofs.Common.{refl, sym, ◌∙◌, ap, subst, arith, length-append, Bool}
 use Rattle.std.specs.Prelude.{◌↔◌, is_some, IsTrue, IfSome, IfOk, SomeIff}
 use Rattle.std.proofs.lemmas.Bool.{false≢true}
-use Rattle.std.proofs.lemmas.List.{append_cancel_right}
 use Rattle.std.proofs.lemmas.Option.{none-some}
 use Rattle.der_core.specs.Integer.{IsInteger}
-use Rattle.der_core.specs.Moment.{IsMoment}
 use Rattle.der_core.specs.Reads.{Reads}
-use Rattle.der_core.specs.Time.{last_digits, generalized_text}
 use Rattle.der_core.proofs.Numbers.{some_is}
 use Rattle.hex.specs.Hex.{decode_of}
 use Rattle.hex.specs.declared.error.FromHexError.{FromHexError}
@@ -94,17 +91,7 @@ hex_none word f is = nothing (IsHex word) (λ v h. err_ok f v (sym is ∙ h.1))
 pub hex_empty : (word : List ℕ) → length word ≡ 0 → Exactly (IsHex word) None
 hex_empty word none = nothing (IsHex word) (λ v h. omega (arith, h.0, none))
 
--- ---- moments and certificates
-
--- the digits are a moment's exactly where they and a Z are its GeneralizedTime
-pub without_z : (digits time : List ℕ) (result : Option ℕ) → time ≡ digits ++ codes "Z"
-    → Reads generalized_text IsMoment time result → Reads (last_digits 14) IsMoment digits result
-unfolding generalized_text
-without_z digits time result is reads v = (
-  (λ e. let read = (reads v).0 e in
-      (read.0, append_cancel_right digits (last_digits 14 v) (codes "Z") (sym is ∙ read.1))),
-  λ named. (reads v).1 (named.0, is ∙ ap (λ (ds : List ℕ). ds ++ codes "Z") named.1),
-)
+-- ---- certificates
 
 -- whether something is read is whether there is a text
 pub tells : {V : Type 0} (text : V → List ℕ) (IsValid : V → Type 0) (octets : List ℕ) (o : Option V) (b : Bool)

@@ -1,7 +1,6 @@
 -- The reading of a key line, in the order in which the code reads. Nothing here has to be believed: the clauses
 -- speak by the texts of the other files, and that what is read here agrees is proved.
-use Rattle.std.specs.Prelude.{ℕ, List, [], ◌∷◌, Option, Some, None, ◌==◌, if◌then◌else◌, Bool, false, nat_eq, nat_le}
-use Rattle.std.specs.Prelude.{◌&&◌, codes}
+use Rattle.std.specs.Prelude.{ℕ, List, [], ◌∷◌, Option, Some, None, ◌==◌, if◌then◌else◌, Bool, nat_eq, codes}
 use Rattle.std.specs.Result.{result_ok}
 use Rattle.std.specs.Cmp.Lexicographic.{pointwise}
 use Rattle.der_core.specs.Reading.{◌>>?◌}
@@ -20,11 +19,6 @@ cut c (o ∷ os) = if o == c then Some ([], os) else (cut c os >>? λ x. Some (o
 -- the word is this one
 abbrev pub is_word : List ℕ → List ℕ → Bool
 is_word word this = pointwise nat_eq word this
-
--- the first is a digit other than 0
-unfoldable pub is_lead : List ℕ → Bool
-is_lead [] = false
-is_lead (c ∷ cs) = nat_le 49 c && nat_le c 57
 
 -- the kind of a signing key's tree
 unfoldable pub tree_of : List ℕ → Option LmsKind

@@ -2,11 +2,11 @@
 use Rattle.std.specs.Prelude.{◌≡◌, ◌↔◌, ℕ, ◌<◌, ◌≤◌, ◌^◌, List, [], ◌∷◌, ◌++◌, length, slice_index, EachIndex}
 use Rattle.std.specs.Prelude.{Option, Some}
 use Rattle.std.specs.Fmt.{decimal}
+use Rattle.der_core.specs.Decimal.{moment_digits}
 use Rattle.der_core.specs.Element.{enc}
 use Rattle.der_core.specs.Integer.{IsInteger}
 use Rattle.der_core.specs.Moment.{IsMoment}
 use Rattle.der_core.specs.Objects.{IsOid, AreSmall, oid_contents, dotted}
-use Rattle.der_core.specs.Time.{last_digits}
 use Rattle.cert_fields.specs.Constraints.{ContentConstraint, AreConstraints, constraints_text}
 use Rattle.hss_chain.specs.Keys.{IsHssKey, hss_key_text}
 use Rattle.hss_chain.specs.declared.key.HssKey.{HssKey}
@@ -25,7 +25,7 @@ IsNumber word n = (n < 2 ^ 128) × (word ≡ decimal n)
 
 -- AT: a moment, in fourteen digits
 abbrev pub IsAt : List ℕ → ℕ → Type 0
-IsAt word at = IsMoment at × (word ≡ last_digits 14 at)
+IsAt word at = IsMoment at × (word ≡ moment_digits at)
 
 -- ---- identifiers
 

@@ -8,8 +8,8 @@ use crate::cert_line::{CertKind, authority_in, hardware_in, kind_named, uses_in}
 use crate::cut::cut_at;
 use crate::name_word::name_in;
 use crate::place::fill;
-use crate::words::{constraints_in, hex64_in, hss_key_in, moment_in, serial_in};
-use der_core::{Moment, Octets64, Oid};
+use crate::words::{constraints_in, hex64_in, hss_key_in, serial_in};
+use der_core::{Moment, Octets64, Oid, read_decimal_moment};
 use hss_chain::HssKey;
 use packager::{Authority, CertPlan, KeyUses};
 use std::alloc::{AllocError, Global};
@@ -75,8 +75,8 @@ impl CertDraft {
             CertKind::Serial => Ok(fill(&mut self.serial, serial_in(alloc, text)?)),
             CertKind::Issuer => Ok(fill(&mut self.issuer, name_in(alloc, text)?)),
             CertKind::Subject => Ok(fill(&mut self.subject, name_in(alloc, text)?)),
-            CertKind::From => Ok(fill(&mut self.from, moment_in(text))),
-            CertKind::To => Ok(fill(&mut self.to, moment_in(text))),
+            CertKind::From => Ok(fill(&mut self.from, read_decimal_moment(text))),
+            CertKind::To => Ok(fill(&mut self.to, read_decimal_moment(text))),
             CertKind::Public => Ok(fill(&mut self.key, hss_key_in(text))),
             CertKind::SubjectKey => Ok(fill(&mut self.subject_key, hex64_in(alloc, text)?)),
             CertKind::AuthorityKey => Ok(fill(&mut self.authority_key, hex64_in(alloc, text)?)),

@@ -7,8 +7,8 @@ ghost use Rattle.recipe_text.specs.Words.{Exactly};
 
 use crate::cut::{cut_at, is_word};
 use crate::oid_word::oid_in;
-use crate::words::{hex64_in, number_in};
-use der_core::{Octets64, Oid};
+use crate::words::hex64_in;
+use der_core::{Octets64, Oid, read_decimal_u128};
 use packager::{Authority, KeyUses};
 use std::alloc::{AllocError, Global};
 
@@ -70,7 +70,7 @@ pub(crate) fn authority_in(text: &[u8]) -> Option<Authority>
     if text == b"-".as_slice() {
         return Some(Authority { path_len: None });
     }
-    let number = number_in(text)?;
+    let number = read_decimal_u128(text)?;
     Some(Authority {
         path_len: Some(number),
     })

@@ -10,6 +10,7 @@ ghost use Rattle.recipe_text.specs.KeyRecipe.{KeyRecipe, FirstBadKeyLine};
 ghost use Rattle.recipe_text.specs.ModuleRecipe.{ModuleRecipe, FirstBadModuleLine};
 ghost use Rattle.recipe_text.specs.PackageRecipe.{PackageRecipe, FirstBadPackageLine};
 
+use cert_fields::one_constraints_text;
 use der_core::laws::one_time;
 use lms_sign::keys_have_one_text_each;
 
@@ -25,12 +26,17 @@ pub fn recipes_have_no_bad_line()
         → FirstBadKeyLine text n → ⊥ }
 {}
 
-/// A law: a text is a recipe of one key or certificate at most, and has one first bad line at most.
+/// A law: a text is a recipe of one key, certificate, package or module at most, and has one first
+/// bad line at most.
 pub fn recipes_say_one_thing()
     ensures keys { (text : List ℕ) (key other : SignKey) → KeyRecipe text key → KeyRecipe text other
         → key ≡ other }
     ensures certificates { (text : List ℕ) (plan other : CertificatePlan) → CertRecipe text plan
         → CertRecipe text other → plan ≡ other }
+    ensures packages { (text : List ℕ) (plan other : PlannedPackage) → PackageRecipe text plan
+        → PackageRecipe text other → plan ≡ other }
+    ensures modules { (text : List ℕ) (owner other : Module) → ModuleRecipe text owner
+        → ModuleRecipe text other → owner ≡ other }
     ensures key_lines { (text : List ℕ) (m n : ℕ) → FirstBadKeyLine text m → FirstBadKeyLine text n
         → m ≡ n }
     ensures certificate_lines { (text : List ℕ) (m n : ℕ) → FirstBadCertLine text m
@@ -41,12 +47,14 @@ pub fn recipes_say_one_thing()
         → FirstBadModuleLine text n → m ≡ n }
 {
     one_time();
+    one_constraints_text();
     keys_have_one_text_each();
 }
 
 /// A law: what the certificate of a recipe is to say has texts that are read back, and what the
 /// package of one is to say is within the limits of a package, where the recipe has at most 2^26
-/// octets.
+/// octets. A package's certificates have at most 2^26 octets together, and nothing else in a recipe
+/// bounds them: a longer one can name eight that have more.
 pub fn recipes_give_plans()
     ensures certificates { (text : List ℕ) (plan : CertificatePlan) → length text < 2 ^ 32 - 1
         → CertRecipe text plan → IsCertificatePlan plan }

@@ -14,17 +14,19 @@
 //! So a text is either a recipe or has one first bad line, and never both: those are the laws
 //! `recipes_have_no_bad_line` (`certificates`, `packages`, `modules`, `keys`) and
 //! `recipes_say_one_thing`, by which a text has one first bad line at most (`key_lines`,
-//! `certificate_lines`, `package_lines`, `module_lines`) and is a recipe of one key and of one
-//! certificate at most (`keys`, `certificates`). `recipes_give_plans` is the law that what a
-//! certificate is to say has texts that are read back, and that what a package is to say is within
-//! its limits (`certificates`, `packages`). Nothing is said where memory is wanting. Key recipes take
-//! none; of the others each HEX is decoded once, into its place in what is answered.
+//! `certificate_lines`, `package_lines`, `module_lines`) and is a recipe of one key, of one
+//! certificate, of one package and of one module at most (`keys`, `certificates`, `packages`,
+//! `modules`). `recipes_give_plans` is the law that what a certificate is to say has texts that are
+//! read back, and that what a package is to say is within its limits (`certificates`, `packages`).
+//! Nothing is said where memory is wanting. Key recipes take none; of the others each HEX is decoded
+//! once, into its place in what is answered.
 //!
 //! Below it stand `packager`, with what certificates and packages can say, `cert_fields`, which reads
-//! constraints and certificates and has the trust anchors, `der_write`, by which names are made,
-//! `hss_chain` and `lms_sign`, with the keys, `module_record`, with the modules and the parts of a
-//! key, `hex`, with the hex digits of either case, and `memchr`, which finds the ends of lines and
-//! words. Above it stand the commands that read recipes.
+//! constraints and certificates and has the trust anchors, `der_core`, which reads decimal numbers,
+//! moments and the contents of identifiers, `der_write`, by which names are made, `hss_chain` and
+//! `lms_sign`, with the keys, `module_record`, with the modules and the parts of a key, `hex`, with
+//! the hex digits of either case, and `memchr`, which finds the ends of lines and words. Above it
+//! stand the commands that read recipes.
 //!
 //! Limits: a recipe has fewer than 2^32 - 1 octets, so that each line has a number, and a package
 //! recipe at most 2^26, as the certificates of a package have together.

@@ -9,9 +9,9 @@ use crate::key_line::key_behind;
 use crate::module_line::{ModuleKind, capacity_in, kind_named};
 use crate::oid_word::oid_in;
 use crate::place::{add, fill};
-use crate::words::{hex64_in, number_in};
+use crate::words::hex64_in;
 use cert_fields::Anchor;
-use der_core::{Octets64, Oid};
+use der_core::{Octets64, Oid, read_decimal_u128};
 use lms_sign::SignKey;
 use module_record::{Anchors, Kinds, MOST_ANCHORS, MOST_LISTED, Module, Oids};
 use std::alloc::{AllocError, Global};
@@ -74,7 +74,7 @@ impl ModuleDraft {
             ModuleKind::Capacity => Ok(fill(&mut self.capacity, capacity_in(text))),
             ModuleKind::Key => Ok(fill(&mut self.key, key_behind(text))),
             ModuleKind::Community => add(&mut self.communities, MOST_LISTED, oid_in(alloc, text)?),
-            ModuleKind::Type => add(&mut self.kinds, MOST_LISTED, number_in(text)),
+            ModuleKind::Type => add(&mut self.kinds, MOST_LISTED, read_decimal_u128(text)),
             ModuleKind::Anchor => add(&mut self.anchors, MOST_ANCHORS, anchor_in(alloc, text)?),
         }
     }

@@ -5,7 +5,7 @@ ghost use Rattle.recipe_text.specs.ModuleRecipe.{IsCapacity};
 ghost use Rattle.recipe_text.specs.Words.{Exactly};
 
 use crate::cut::is_word;
-use crate::words::number_in;
+use der_core::read_decimal_u128;
 use module_record::MOST_CAPACITY;
 
 // A kind of line.
@@ -48,7 +48,7 @@ pub(crate) fn kind_named(name: &[u8]) -> Option<ModuleKind>
 pub(crate) fn capacity_in(word: &[u8]) -> Option<u32>
     ensures exact { Exactly (IsCapacity word.now) result }
 {
-    let number = number_in(word)?;
+    let number = read_decimal_u128(word)?;
     if number < 1 || number > u128::from(MOST_CAPACITY) {
         return None;
     }

@@ -8,8 +8,7 @@ ghost use Rattle.recipe_text.specs.OidReading.{IsFront, FirstOf, Spells, joined,
 ghost use Rattle.recipe_text.specs.Words.{Exactly, IsOidWord};
 
 use crate::cut::cut_at;
-use crate::words::number_in;
-use der_core::{Oid, read_oid};
+use der_core::{Oid, read_decimal_u128, read_oid};
 use std::alloc::{AllocError, Global};
 
 // The identifier that a word spells.
@@ -61,7 +60,7 @@ fn first_in(word: &[u8]) -> Option<(u128, Option<&[u8]>)>
         return None;
     }
     let (front, rest) = front_in(text);
-    let number = number_in(front)?;
+    let number = read_decimal_u128(front)?;
     let first = joined(root[0], number)?;
     Some((first, rest))
 }
@@ -74,7 +73,7 @@ fn put_others(out: &mut Vec<u8>, behind: Option<&[u8]>) -> Result<bool, AllocErr
     let mut rest = behind;
     while let Some(text) = rest {
         let (front, next) = front_in(text);
-        let Some(number) = number_in(front) else {
+        let Some(number) = read_decimal_u128(front) else {
             return Ok(false);
         };
         put_subidentifier(out, number)?;

@@ -12,9 +12,9 @@ use crate::package_line::{
     preferred_in, upto_in,
 };
 use crate::place::{add, fill};
-use crate::words::{certificate_in, hex64_in, number_in};
+use crate::words::{certificate_in, hex64_in};
 use attribute_write::NamedCommunity;
-use der_core::{Octets64, Oid};
+use der_core::{Octets64, Oid, read_decimal_u128};
 use package_attrs::{Identifier, MOST_DEPENDENCIES, PackageName, Stale};
 use packager::PackagePlan;
 use std::alloc::{AllocError, Global};
@@ -104,7 +104,7 @@ impl PackageDraft {
             PackageKind::Target => add(&mut self.targets, TARGETS, oid_in(alloc, text)?),
             PackageKind::Community => add_group(alloc, &mut self.communities, text),
             PackageKind::Module => add_modules(alloc, &mut self.communities, text),
-            PackageKind::Type => Ok(fill(&mut self.kind, number_in(text))),
+            PackageKind::Type => Ok(fill(&mut self.kind, read_decimal_u128(text))),
             PackageKind::Depends => {
                 add(
                     &mut self.dependencies,

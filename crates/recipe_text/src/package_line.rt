@@ -8,9 +8,9 @@ ghost use Rattle.recipe_text.specs.Words.{Exactly, IsPair, IsOidWord, IsHex64};
 
 use crate::cut::{cut_at, is_word};
 use crate::oid_word::oid_in;
-use crate::words::{hex_in, hex64_in, number_in};
+use crate::words::{hex_in, hex64_in};
 use attribute_write::NamedCommunity;
-use der_core::{Octets64, Oid};
+use der_core::{Octets64, Oid, read_decimal_u128};
 use package_attrs::{PackageName, SerialEntry, Stale};
 use std::alloc::{AllocError, Global};
 
@@ -87,7 +87,7 @@ pub(crate) fn preferred_in(alloc: Global, text: &[u8]) -> Result<Option<PackageN
     let Some(id) = oid_in(alloc, oid)? else {
         return Ok(None);
     };
-    let Some(version) = number_in(number) else {
+    let Some(version) = read_decimal_u128(number) else {
         return Ok(None);
     };
     Ok(Some(PackageName::Preferred { id, version }))
@@ -107,7 +107,7 @@ pub(crate) fn legacy_in(alloc: Global, text: &[u8]) -> Result<Option<PackageName
 pub(crate) fn upto_in(text: &[u8]) -> Option<Stale>
     ensures exact { Exactly (IsStaleOf true text.now) result }
 {
-    let number = number_in(text)?;
+    let number = read_decimal_u128(text)?;
     Some(Stale::Upto(number))
 }
 

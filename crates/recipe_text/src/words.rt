@@ -3,57 +3,15 @@ ghost use Rattle.std.specs.Prelude.{◌≡◌, ◌↔◌, ◌≤◌, IsTrue, IfO
 ghost use Rattle.der_core.specs.Integer.{IsInteger};
 ghost use Rattle.packager.specs.PackagePlan.{IsCertificateText};
 ghost use Rattle.recipe_text.specs.Lines.{IsHex};
-ghost use Rattle.recipe_text.specs.Reading.{is_lead};
-ghost use Rattle.recipe_text.specs.Words.{Exactly, IsNumber, IsAt, IsHex64, IsSerialWord, IsKeyWord};
+ghost use Rattle.recipe_text.specs.Words.{Exactly, IsHex64, IsSerialWord, IsKeyWord};
 ghost use Rattle.recipe_text.specs.Words.{AreConstraintsText, IsConstraintsWord, IsCertificateWord};
 
 use crate::key_line::octets_in;
 use cert_fields::{read_ccc, read_cert};
-use der_core::{Moment, Octets64, read_int_octets, read_time, tags};
+use der_core::{Octets64, read_int_octets};
 use hex::FromHexError;
 use hss_chain::{HssKey, hss_key};
 use std::alloc::{AllocError, Global};
-use std::str;
-
-// A decimal number below 2^128, without a leading zero.
-pub(crate) fn number_in(word: &[u8]) -> Option<u128>
-    ensures exact { Exactly (IsNumber word.now) result }
-{
-    if word == b"0".as_slice() {
-        return Some(0);
-    }
-    if !is_lead(word) {
-        return None;
-    }
-    match str::from_utf8(word) {
-        Ok(text) => text.parse().ok(),
-        Err(_) => None,
-    }
-}
-
-// Whether the first is a digit other than 0.
-#[tactic(auto, unfolding(crate::specs::Reading::is_lead))]
-fn is_lead(word: &[u8]) -> bool
-    ensures { result ≡ is_lead word.now }
-{
-    match word {
-        [first, ..] => *first >= b'1' && *first <= b'9',
-        [] => false,
-    }
-}
-
-// The moment that fourteen digits are: a GeneralizedTime without its Z (RFC 5280, section
-// 4.1.2.5.2).
-pub(crate) fn moment_in(word: &[u8]) -> Option<Moment>
-    ensures exact { Exactly (IsAt word.now) result }
-{
-    if word.len() != 14 {
-        return None;
-    }
-    let mut time = [b'Z'; 15];
-    time[..14].copy_from_slice(word);
-    read_time(tags::GENERALIZED_TIME, &time)
-}
 
 // The octets of HEX, of any number.
 pub(crate) fn hex_in(alloc: Global, word: &[u8]) -> Result<Option<Vec<u8>>, AllocError>

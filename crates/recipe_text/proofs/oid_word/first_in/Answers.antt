@@ -20,7 +20,7 @@ returns-in_err-number-clause-none c =
     c.in_ok-root.ensures.exact ∙ ap (λ (r : List ℕ). Some (r, c.in_ok-root.text.now)) (single root one) in
     if_none _ _ c.from_residual-in_err-number.ensures
     (no_second c.args.word.now (get_or root 0 0) c.in_ok-root.text.now c.front_in.result.0.now _ is
-    c.front_in.ensures.front c.in_err-number.ensures.exact)
+    c.front_in.ensures.front c.in_err-number.ensures.spelled)
 
 pub returns-in_err-first-clause-none : goal.returns-in_err-first-clause-none
 returns-in_err-first-clause-none c =
@@ -30,7 +30,7 @@ returns-in_err-first-clause-none c =
     c.in_ok-root.ensures.exact ∙ ap (λ (r : List ℕ). Some (r, c.in_ok-root.text.now)) (single root one) in
     if_none _ _ c.from_residual-in_err-first.ensures
     (no_joined c.args.word.now (get_or root 0 0) c.in_ok-root.text.now c.front_in.result.0.now _ is
-    c.front_in.ensures.front c.in_ok-number.number ((c.in_ok-number.ensures.exact c.in_ok-number.number).0 refl)
+    c.front_in.ensures.front c.in_ok-number.number ((c.in_ok-number.ensures.spelled c.in_ok-number.number).0 refl)
     c.in_err-first.ensures.exact)
 
 pub returns-clause-found : goal.returns-clause-found
@@ -41,4 +41,4 @@ returns-clause-found c =
     c.in_ok-root.ensures.exact ∙ ap (λ (r : List ℕ). Some (r, c.in_ok-root.text.now)) (single root one) in
     is_first c.args.word.now (get_or root 0 0) c.in_ok-root.text.now c.front_in.result.0.now _ is
     c.front_in.ensures.front c.in_ok-number.number c.in_ok-first.first
-    ((c.in_ok-number.ensures.exact c.in_ok-number.number).0 refl) c.in_ok-first.ensures.exact
+    ((c.in_ok-number.ensures.spelled c.in_ok-number.number).0 refl) c.in_ok-first.ensures.exact

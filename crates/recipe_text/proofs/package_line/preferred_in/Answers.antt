@@ -17,17 +17,17 @@ returns-in_default-2 c = record {
       c.in-Some.ensures.exact (rw c.in_default-2.is at c.in_ok-id.ensures.exact));
 }
 
-pub returns-in_default-number_in : goal.returns-in_default-number_in
-returns-in_default-number_in c = record {
+pub returns-in_default-read_decimal_u128 : goal.returns-in_default-read_decimal_u128
+returns-in_default-read_decimal_u128 c = record {
   exact = preferred_none c.args.text.now
       (pair_no_second IsOidWord IsNumber oid_spaceless c.args.text.now c.in-Some.oid.now c.in-Some.number.now
-      c.in-Some.ensures.exact c.in_default-number_in.ensures.exact);
+      c.in-Some.ensures.exact c.in_default-read_decimal_u128.ensures.spelled);
 }
 
 pub returns : goal.returns
 returns c = record {
-  exact = preferred_some c.args.text.now (c.in-Some-2.id, c.in-Some-number_in.version)
+  exact = preferred_some c.args.text.now (c.in-Some-2.id, c.in-Some-read_decimal_u128.version)
       (pair_some IsOidWord IsNumber oid_spaceless c.args.text.now c.in-Some.oid.now c.in-Some.number.now
-      c.in-Some.ensures.exact c.in-Some-2.id c.in-Some-number_in.version (rw c.in-Some-2.is at c.in_ok-id.ensures.exact)
-      c.in-Some-number_in.ensures.exact);
+      c.in-Some.ensures.exact c.in-Some-2.id c.in-Some-read_decimal_u128.version (rw c.in-Some-2.is at c.in_ok-id.ensures.exact)
+      c.in-Some-read_decimal_u128.ensures.spelled);
 }

@@ -37,15 +37,15 @@ returns-in_ok-name_in-in-Subject c = record {
 pub returns-in-From : goal.returns-in-From
 returns-in-From c = record {
   takes = at_kind c.args.kind kinds.From c.args.text.now _ _ _ c.in-From.is
-      (fill_from (draft_parts c.args.self.now) c.requires.fit c.args.text.now c.args.self.now.from c.moment_in.result
-      c.fill-in-From.new.place c.fill-in-From.result refl c.fill-in-From.ensures.fills c.fill-in-From.ensures.filled c.moment_in.ensures.exact);
+      (fill_from (draft_parts c.args.self.now) c.requires.fit c.args.text.now c.args.self.now.from c.read_decimal_moment.result
+      c.fill-in-From.new.place c.fill-in-From.result refl c.fill-in-From.ensures.fills c.fill-in-From.ensures.filled c.read_decimal_moment.ensures.spelled);
 }
 
 pub returns-in-To : goal.returns-in-To
 returns-in-To c = record {
   takes = at_kind c.args.kind kinds.To c.args.text.now _ _ _ c.in-To.is
-      (fill_to (draft_parts c.args.self.now) c.requires.fit c.args.text.now c.args.self.now.to c.moment_in-in-To.result
-      c.fill-in-To.new.place c.fill-in-To.result refl c.fill-in-To.ensures.fills c.fill-in-To.ensures.filled c.moment_in-in-To.ensures.exact);
+      (fill_to (draft_parts c.args.self.now) c.requires.fit c.args.text.now c.args.self.now.to c.read_decimal_moment-in-To.result
+      c.fill-in-To.new.place c.fill-in-To.result refl c.fill-in-To.ensures.fills c.fill-in-To.ensures.filled c.read_decimal_moment-in-To.ensures.spelled);
 }
 
 pub returns-in-Public : goal.returns-in-Public

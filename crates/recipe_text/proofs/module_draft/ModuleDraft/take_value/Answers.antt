@@ -46,8 +46,8 @@ pub returns-in-Type : goal.returns-in-Type
 returns-in-Type c = record {
   takes = if_ok_both _ _ _ c.add-in-Type.result
       (λ good adds put. at_kind c.args.kind kinds.Type c.args.text.now _ _ good c.in-Type.is
-      (add_type (draft_parts c.args.self.now) c.requires.fit c.args.text.now c.number_in.result c.add-in-Type.new.list.items good adds put
-      c.number_in.ensures.exact)) c.add-in-Type.ensures.adds c.add-in-Type.ensures.added;
+      (add_type (draft_parts c.args.self.now) c.requires.fit c.args.text.now c.read_decimal_u128.result c.add-in-Type.new.list.items good adds put
+      c.read_decimal_u128.ensures.spelled)) c.add-in-Type.ensures.adds c.add-in-Type.ensures.added;
 }
 
 pub returns-in_ok-anchor_in-in-Anchor : goal.returns-in_ok-anchor_in-in-Anchor

@@ -69,8 +69,8 @@ returns-in-Module c = record {
 pub returns-in-Type : goal.returns-in-Type
 returns-in-Type c = record {
   takes = at_kind c.args.kind kinds.Type c.args.text.now _ _ _ c.in-Type.is
-      (fill_type (draft_parts c.args.self.now) c.requires.fit c.args.text.now c.args.self.now.kind c.number_in.result
-      c.fill.new.place c.fill.result refl c.fill.ensures.fills c.fill.ensures.filled c.number_in.ensures.exact);
+      (fill_type (draft_parts c.args.self.now) c.requires.fit c.args.text.now c.args.self.now.kind c.read_decimal_u128.result
+      c.fill.new.place c.fill.result refl c.fill.ensures.fills c.fill.ensures.filled c.read_decimal_u128.ensures.spelled);
 }
 
 pub returns-in_ok-preferred_in-in-Depends : goal.returns-in_ok-preferred_in-in-Depends
