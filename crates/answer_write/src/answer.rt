@@ -13,11 +13,11 @@ use crate::kind::AnswerKind;
 use der_core::tags;
 use der_write::put_tlv;
 use key_state::Leaf;
-use lms_sign::signatures_hold;
+use lms_sign::{KeyTree, signatures_hold};
 use module_record::Module;
 use sha2::{Digest, Sha256};
 use signed_write::{
-    Draft, Unsigned, begin_message, finish, push_content_type, push_message_digest,
+    Draft, Unsigned, begin_message, finish_by_tree, push_content_type, push_message_digest,
 };
 use std::alloc::{AllocError, Global};
 use std::marker::Model;
@@ -113,16 +113,18 @@ pub fn reserve_answer(
     Ok(Answer { plain, unsigned })
 }
 
-/// The answer, signed by the module's key with this leaf. It takes no memory.
-pub fn finish_signed(answer: Answer, owner: &Module, leaf: Leaf) -> Vec<u8>
-    requires leaf { leaf < leaf_count owner.now.key }
-    requires size { answer.unsigned.size ≡ hss_signature_size owner.now.key }
-    ensures octets { (kind text : List ℕ) → IsReserved owner.now kind text answer
-        → result.items ≡ signed_answer owner.now leaf kind text }
+/// The answer, signed with this leaf by the module's key, which keeps the nodes of its tree. It takes no
+/// memory.
+pub fn finish_signed(answer: Answer, tree: &mut KeyTree, leaf: Leaf) -> Vec<u8>
+    requires leaf { leaf < leaf_count tree.old }
+    requires size { answer.unsigned.size ≡ hss_signature_size tree.old }
+    ensures octets { (owner : Module) (kind text : List ℕ) → owner.key ≡ tree.old
+        → IsReserved owner kind text answer → result.items ≡ signed_answer owner leaf kind text }
     ensures size { length result.items ≡ length answer.unsigned.before + answer.unsigned.size }
+    ensures unchanged { tree.new ≡ tree.old }
 {
     signatures_hold();
-    finish(answer.unsigned, &owner.key, leaf)
+    finish_by_tree(answer.unsigned, tree, leaf)
 }
 
 /// The answer without a signature. It takes no memory.

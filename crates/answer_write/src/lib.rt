@@ -4,8 +4,9 @@
 //! - `reserve_answer` is the answer of a text in both forms, for each leaf of the module's key (`answer`),
 //!   with an upper bound for each form (`most`, `most_signed`). It takes all memory that either needs.
 //! - `finish_signed` is exactly the signed form with the leaf that it takes (`octets`), and as long as was
-//!   reserved (`size`). `finish_plain` is exactly the plain one (`octets`). Both take an `Answer` by value
-//!   and no memory, so a caller reserves before the leaf is spent, and only then knows which goes out.
+//!   reserved (`size`), by a key that keeps the nodes of its tree, and stays (`unchanged`).
+//!   `finish_plain` is exactly the plain one (`octets`). Both take an `Answer` by value and no memory, so a
+//!   caller reserves before the leaf is spent, and only then knows which goes out.
 //! - `plain_octets` is the plain form alone (`octets`, `most`), for what is never signed: it needs no key.
 //!
 //! The octets are those of `plain_answer` and `signed_answer` in `specs/Answers`: a ContentInfo of the
@@ -17,7 +18,7 @@
 //!
 //! Limits: a text has at most 2^24 octets. Which text an answer has, and whether it is to be signed, is
 //! for the caller to say. The identifier of the key is handed in, since the key's whole tree is computed
-//! for it: so a run computes it once.
+//! for it; the signature takes the tree's nodes from a `KeyTree`. So a run computes them once.
 #![tactic(auto)]
 
 mod answer;

@@ -7,7 +7,7 @@ ghost use Rattle.lms_sign.specs.PublicKeys.{hss_signature_size};
 use crate::answers::owner;
 use crate::packages::first_leaf;
 use answer_write::{Answer, AnswerKind, finish_plain, finish_signed, plain_octets, reserve_answer};
-use lms_sign::{key_id, leaf_count, public};
+use lms_sign::{KeyTree, SignKey, key_id, leaf_count, public};
 use module_record::Module;
 use std::alloc::Global;
 
@@ -89,6 +89,22 @@ fn receipt_is_plain(alloc: Global) -> bool {
     }
 }
 
+// A module's key, with the nodes of its tree.
+fn tree_of(alloc: Global, owner: &Module) -> Option<KeyTree>
+    ensures key { IfSome result (λ tree. tree ≡ owner.now.key) }
+{
+    let key = SignKey {
+        seed: owner.key.seed,
+        id: owner.key.id,
+        kind: owner.key.kind,
+        ots: owner.key.ots,
+    };
+    match KeyTree::new(alloc, key) {
+        Ok(tree) => Some(tree),
+        Err(_) => None,
+    }
+}
+
 // Whether the receipt that is signed with the key's first leaf begins so, and has so many octets.
 fn is_signed(alloc: Global, front: &[u8], size: usize) -> bool {
     let Some(owner) = owner(alloc) else {
@@ -100,9 +116,12 @@ fn is_signed(alloc: Global, front: &[u8], size: usize) -> bool {
     let Some(leaf) = first_leaf(alloc) else {
         return false;
     };
+    let Some(mut tree) = tree_of(alloc, &owner) else {
+        return false;
+    };
     match reserved(alloc, &owner) {
         Some(answer) => {
-            let octets = finish_signed(answer, &owner, leaf);
+            let octets = finish_signed(answer, &mut tree, leaf);
             octets.len() == size && octets.starts_with(front)
         }
         None => false,
