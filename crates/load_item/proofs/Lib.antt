@@ -1,0 +1,5 @@
+mod ReadLemmas
+mod JudgedLemmas
+mod HeldLemmas
+mod AnswerLemmas
+mod JoinLemmas
