@@ -15,8 +15,8 @@
 //! Items, verdicts and answers stand in specs/Items, what a power cut may leave in specs/Kept, a life in
 //! specs/Lives, the headline in specs/Headline. specs/Inside is a bridge for proofs, and nothing of it has
 //! to be believed. Below stand the verdict (`judge_core`), recovery (`bank_layout`) and the texts of answers
-//! (`receipt_writer`, `answer_write`); a loader is to promise `CutsKeep` and `Loads` of
-//! specs/Boards, and no crate does yet.
+//! (`receipt_writer`, `answer_write`). What a loader has to promise is `CutsKeep` and `Loads` of specs/Boards;
+//! `loader_core` does.
 #![tactic(auto)]
 
 mod laws;

@@ -1,0 +1,5 @@
+pub mod Turning
+pub mod Faults
+pub mod Opening
+pub mod Running
+pub mod Cutting

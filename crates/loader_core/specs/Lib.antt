@@ -1,0 +1,4 @@
+pub mod Loading
+pub mod Endings
+pub mod Loops
+pub mod Cuts
