@@ -30,6 +30,7 @@ use Rattle.fwload_top.specs.Signing as signings
 use Rattle.fwload_top.specs.Signing.{signing}
 use Rattle.fwload_top.specs.Signing.Outcome.{no_key, bad_line, all_spent, signed}
 use Rattle.fwload_top.proofs.SigningLemmas.{no_bad_line, some_left}
+use Rattle.fwload_top.proofs.LoadLemmas.{no_load_usage, load_causes, load_completes}
 use Rattle.fwload_top.proofs.TripleLaws.{one_triple}
 use Rattle.fwload_top.proofs.MakingLemmas as makings
 use Rattle.fwload_top.proofs.AnswersOnceLemmas.{NeverRefuses, completes, of_input}
@@ -116,6 +117,7 @@ not_usage commands.Make r run is = no_usage r run is
 not_usage commands.List r run is = no_usage r run is
 not_usage commands.Issue r run is = no_usage r run is
 not_usage commands.Pack r run is = no_usage r run is
+not_usage (commands.Load at) r run is = no_load_usage run.ending (sym run.status ∙ is)
 
 pub causes_of : (c : Command) (r : Seen) → (promise c).Runs r → HasCauses (promise c).limit r
 causes_of commands.Ident r run = run.causes
@@ -127,6 +129,7 @@ causes_of commands.Make r run = run.causes
 causes_of commands.List r run = run.causes
 causes_of commands.Issue r run = run.causes
 causes_of commands.Pack r run = run.causes
+causes_of (commands.Load at) r run = load_causes at r run
 
 -- over what it needs it comes to its end
 pub completes_command : (c : Command) (r : Seen) → (promise c).Runs r → (promise c).Ready r → Undisturbed r
@@ -146,6 +149,7 @@ completes_command commands.Issue r run ready calm =
     completes (signing Certificate) r (signing_completes Certificate r) run ready calm
 completes_command commands.Pack r run ready calm =
     completes (signing Package) r (signing_completes Package r) run ready calm
+completes_command (commands.Load at) r run ready calm = load_completes at r run ready calm
 
 -- what the command in hand leaves is what the one that is asked for leaves
 pub as_asked : (a b : Command) (r : Seen) → a ≡ b → (promise b).Runs r → (promise a).Runs r

@@ -12,4 +12,7 @@ pub mod NoFlash
 pub mod OneAnswer
 pub mod TripleLaws
 pub mod UnopenedLemmas
+pub mod LoadLemmas
+pub mod CutLemmas
 pub mod RoundLemmas
+pub mod LeafLemmas

@@ -239,3 +239,16 @@ module _ (one : (image : List ℕ) → HasOneKey image) (p : Product) {tc : Type
   still_holds key holds image s cut = ⊎_elim (λ none. subst (λ (c : List ℕ). HoldsKey c key) (sym none.0) holds)
       (λ signs. holds_on key cells image holds (λ i free. omega (arith, free.1)) signs.1.leaf.kept)
       (nothing_or_signs key holds image s cut)
+
+  -- where no key holds the board nothing is signed
+  pub signs_nothing : ((key : SignKey) → ¬ HoldsKey cells key) → (image s : List ℕ)
+      → CutLeaves (signing p) tc left cells count image s → SignsNothing cells image s
+  signs_nothing none image s (inl before) = (before.1, inl before.0)
+  signs_nothing none image s (inr (no_key, comes, cut)) =
+      nothing_cut image s (λ front. inl (front_of_none s front)) cut
+  signs_nothing none image s (inr (bad_line n, comes, cut)) =
+      absurd (none (comes.cells told).0 (comes.cells told).1)
+  signs_nothing none image s (inr (all_spent, comes, cut)) =
+      absurd (none (comes.cells told).0.0 (comes.cells told).0.1)
+  signs_nothing none image s (inr (signed output key leaf, comes, cut)) =
+      absurd (none key (comes.cells told).holds)

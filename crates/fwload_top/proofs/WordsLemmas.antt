@@ -74,3 +74,4 @@ asks_none words two three c = ((λ e. absurd (none-some c e)), λ asks. absurd (
     other commands.Pack asks = two (size commands.Pack asks)
     other (commands.Rehearse at) asks = three (size (commands.Rehearse at) asks)
     other (commands.Explain at) asks = three (size (commands.Explain at) asks)
+    other (commands.Load at) asks = three (size (commands.Load at) asks)

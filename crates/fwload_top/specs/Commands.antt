@@ -1,5 +1,6 @@
 -- What each command promises of a run.
 use Rattle.std.specs.Prelude.{ℕ, List, Option}
+use Rattle.loader_core.specs.Loading.{load_limit}
 use Rattle.fwload_top.specs.declared.words.Command.{Command}
 use Rattle.fwload_top.specs.declared.words.Command.TheVariants as commands
 use Rattle.fwload_top.specs.Status.{IsFinished}
@@ -16,6 +17,7 @@ use Rattle.fwload_top.specs.List.{list}
 use Rattle.fwload_top.specs.Explain.{explain}
 use Rattle.fwload_top.specs.declared.signing.Product.TheVariants.{Certificate, Package}
 use Rattle.fwload_top.specs.Signing.{signing}
+use Rattle.fwload_top.specs.Load.{RunsLoad, IsLoadReady, LoadCut}
 
 -- The most octets of input that a command takes, what its run leaves, and what brings it to its end.
 pub record Promise : Type 1 where
@@ -33,6 +35,15 @@ Completes p r = p.Ready r → Undisturbed r → IsFinished r.status
 abbrev pub once : Meaning → Promise
 once m = record { limit = input_limit; Runs = AnswersOnce m; Ready = IsReady m; Cut = CutLeaves m }
 
+-- of `load`, which answers as it goes
+abbrev pub loading : ℕ → Promise
+loading at = record {
+  limit = load_limit;
+  Runs = RunsLoad at;
+  Ready = IsLoadReady;
+  Cut = λ tells_cells left start count image s. LoadCut at left start image s;
+}
+
 abbrev pub promise : Command → Promise
 promise commands.Ident = once ident
 promise commands.Sigcheck = once sigcheck
@@ -43,3 +54,4 @@ promise commands.Make = once (making holder_kinds.Module)
 promise commands.List = once list
 promise commands.Issue = once (signing Certificate)
 promise commands.Pack = once (signing Package)
+promise (commands.Load at) = loading at

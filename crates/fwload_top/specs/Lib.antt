@@ -6,7 +6,8 @@ pub mod AnswersOnce
 pub mod Commands
 pub mod Words
 pub mod Input
-pub mod KeyRounds
+pub mod BoardRuns
+pub mod Rounds
 pub mod Reply
 pub mod Ident
 pub mod Sigcheck
@@ -20,3 +21,4 @@ pub mod Standing
 pub mod List
 pub mod Explain
 pub mod Signing
+pub mod Load

@@ -2,8 +2,8 @@
 use Rattle.std.specs.Prelude.{◌≡◌, ℕ, List, [], ◌∷◌, map, string_bytes, codes}
 use Rattle.std.specs.Global.{Global}
 use Rattle.std.specs.declared.string.String.{String}
+use Rattle.der_core.specs.Decimal.{moment_digits}
 use Rattle.der_core.specs.Moment.{IsMoment}
-use Rattle.der_core.specs.Time.{last_digits}
 use Rattle.fwload_top.specs.declared.words.Command.{Command}
 use Rattle.fwload_top.specs.declared.words.Command.TheVariants as commands
 
@@ -16,8 +16,9 @@ words_of commands.Make = codes "make" ∷ []
 words_of commands.List = codes "list" ∷ []
 words_of commands.Issue = codes "issue" ∷ []
 words_of commands.Pack = codes "pack" ∷ []
-words_of (commands.Rehearse at) = codes "rehearse" ∷ last_digits 14 at ∷ []
-words_of (commands.Explain at) = codes "explain" ∷ last_digits 14 at ∷ []
+words_of (commands.Rehearse at) = codes "rehearse" ∷ moment_digits at ∷ []
+words_of (commands.Explain at) = codes "explain" ∷ moment_digits at ∷ []
+words_of (commands.Load at) = codes "load" ∷ moment_digits at ∷ []
 
 -- what the command speaks of is in its range
 abbrev pub IsCommand : Command → Type 0
@@ -30,6 +31,7 @@ IsCommand commands.Issue = Unit {0}
 IsCommand commands.Pack = Unit {0}
 IsCommand (commands.Rehearse at) = IsMoment at
 IsCommand (commands.Explain at) = IsMoment at
+IsCommand (commands.Load at) = IsMoment at
 
 -- these words behind the flash file's name are the command's
 abbrev pub Denotes : List (List ℕ) → Command → Type 0

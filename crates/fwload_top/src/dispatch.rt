@@ -8,6 +8,7 @@ ghost use Rattle.fwload_top.specs.Commands.{promise, Completes};
 use crate::explain::explain;
 use crate::ident::ident;
 use crate::list::list;
+use crate::load::load;
 use crate::making::{HolderKind, make};
 use crate::rehearse::rehearse;
 use crate::sigcheck::sigcheck;
@@ -75,5 +76,6 @@ fn obey<S: Source, B: Board>(
         Command::List => list(alloc, board),
         Command::Issue => sign(alloc, Product::Certificate, source, board),
         Command::Pack => sign(alloc, Product::Package, source, board),
+        Command::Load(at) => load(alloc, at, source, board),
     }
 }

@@ -14,7 +14,8 @@
 //!   what it makes of the flash. The run sent exactly that line, or a front of it where the board
 //!   failed; a power cut at any moment leaves what that row allows, from the first octet of the
 //!   line on what the line says; where no row over the board reads the input, the source stays as
-//!   it was; and a command that writes no flash leaves it, however it ends (`AnswersOnce`).
+//!   it was; and a command that writes no flash leaves it, however it ends (`AnswersOnce`). `load`
+//!   answers as it goes, and leaves what the loader promises (`RunsLoad`).
 //! - Where the board and the input are as the command needs and no call fails, the command is done,
 //!   or memory is wanting (`complete`): a refusal, a fault or too long an input isn't answered.
 //!
@@ -34,18 +35,28 @@
 //! - `issue` and `pack` send the certificate and the package whose recipe the input is, signed with
 //!   the next leaf of the key that holds the board (RFC 5280, section 4.1; RFC 4108, section 2). What a
 //!   power cut at any moment of them leaves is a run that signs with that leaf, or one that signs
-//!   nothing: that is the law `cuts_leave_signing_runs` (`runs`, `holds`). Over every list of runs of
-//!   all commands over a key's board, and power cuts in them, no two outputs of which any octet was
-//!   sent have the same leaf: that is the law `no_leaf_is_used_twice` (`runs`, `ascends`).
+//!   nothing: that is the law `cuts_leave_signing_runs` (`runs`, `holds`).
+//! - `load` judges, installs and answers packages, one after the other (RFC 4108): its meaning is
+//!   `LoadRuns` of `loader_core`.
 //! - `ident`, `sigcheck`, `rehearse`, `list` and `explain` write no flash: that is the law
 //!   `no_flash_is_written`.
+//!
+//! Over every list of runs of all commands, and power cuts inside and between them:
+//!
+//! - What a power cut leaves of a run is what its command says of one: the law `cuts_are_rounds`.
+//! - On the board of a key or a module no two signed outputs and answers of which any octet was sent
+//!   have the same leaf: the law `no_leaf_is_used_twice` (`runs`, `loads`, `ascends`).
+//! - From the board on that `make` leaves, recovery finds what the packages make that the runs of `load`
+//!   installed: a prefix of those that each accepted, which holds each one whose receipt was sent whole.
+//!   That is the law `headline_over_all_runs`; docs/HEADLINE.md goes through its words.
 //!
 //! Below it stand `edge_board` (the source and the board), `attribute_set` and `package_attrs`
 //! (attributes, identifiers and packages), `config_table` and `package_rules` (the tables and the
 //! rules over them), `report_text` (lines), `hss_chain` (signatures), `lms_sign` (signing keys),
 //! `recipe_text` (recipes), `packager` (certificates and packages), `key_state` (leaves),
-//! `bank_store` (whether a board is held, and formats), `module_store` (the store of a module) and
-//! `bank_layout` (what a flash recovers to). The program `fwload` hands it the words, standard input
+//! `bank_store` (whether a board is held, and formats), `module_store` (the store of a module),
+//! `bank_layout` (what a flash recovers to), `loader_core` (a run of `load`) and `load_claims` (what is
+//! claimed of such runs). The program `fwload` hands it the words, standard input
 //! and the flash; the crate `run_rows` has its tests.
 //!
 //! What was read is known only of a source that tells what it has left, and the cells and moments
@@ -67,6 +78,7 @@ mod input;
 mod key_line;
 mod laws;
 mod list;
+mod load;
 mod making;
 mod rehearsal;
 mod rehearse;
@@ -81,7 +93,8 @@ mod words;
 
 pub use dispatch::run;
 pub use laws::{
-    cuts_leave_signing_runs, no_flash_is_written, no_leaf_is_used_twice, one_rehearsal,
+    cuts_are_rounds, cuts_leave_signing_runs, headline_over_all_runs, no_flash_is_written,
+    no_leaf_is_used_twice, one_rehearsal,
 };
 pub use making::{HolderKind, NewHolder};
 pub use signing::Product;

@@ -1,11 +1,8 @@
 // The words that a run is asked by.
 ghost use Rattle.std.specs.Prelude.{◌≡◌, ◌↔◌, ◌∷◌, [], Some};
-ghost use Rattle.der_core.specs.Moment.{IsMoment};
-ghost use Rattle.der_core.specs.Reads.{Reads};
-ghost use Rattle.der_core.specs.Time.{last_digits};
 ghost use Rattle.fwload_top.specs.Words.{Asks, Denotes};
 
-use der_core::{Moment, read_time, tags};
+use der_core::{Moment, read_decimal_moment};
 
 /// What the words ask for.
 #[derive(Clone, Copy, Debug, PartialEq, Eq)]
@@ -30,6 +27,9 @@ pub enum Command {
     Issue,
     /// Sign the package of the recipe that the input is, with the next leaf of the board's key.
     Pack,
+    /// Load packages at a moment: judge each item of the input by the module that holds the board,
+    /// install it if it is accepted, and answer it before the next one is read.
+    Load(Moment),
 }
 
 // The command that the words ask for: the flash file's name, and then the command's.
@@ -70,25 +70,14 @@ fn without_argument(word: &str) -> Option<Command>
 fn with_moment(word: &str, digits: &str) -> Option<Command>
     ensures { (c : Command) → (result ≡ Some c) ↔ Denotes (word.now ∷ digits.now ∷ []) c }
 {
-    let at = moment_of(digits.as_bytes())?;
+    let at = read_decimal_moment(digits.as_bytes())?;
     if word == "rehearse" {
         Some(Command::Rehearse(at))
     } else if word == "explain" {
         Some(Command::Explain(at))
+    } else if word == "load" {
+        Some(Command::Load(at))
     } else {
         None
     }
-}
-
-// The moment that fourteen digits are: a GeneralizedTime without its Z (RFC 5280, section
-// 4.1.2.5.2).
-fn moment_of(digits: &[u8]) -> Option<Moment>
-    ensures { Reads (last_digits 14) IsMoment digits.now result }
-{
-    if digits.len() != 14 {
-        return None;
-    }
-    let mut time = [b'Z'; 15];
-    time[..14].copy_from_slice(digits);
-    read_time(tags::GENERALIZED_TIME, &time)
 }

@@ -36,3 +36,8 @@ returns-in-Issue g c = record { runs = as_asked c.args.command commands.Issue _ 
 
 pub returns-in-Pack : goal.returns-in-Pack
 returns-in-Pack g c = record { runs = as_asked c.args.command commands.Pack _ c.in-Pack.is c.sign-in-Pack.ensures.runs }
+
+pub returns-in-Load : goal.returns-in-Load
+returns-in-Load g c = record {
+  runs = as_asked c.args.command (commands.Load c.in-Load.at) _ c.in-Load.is c.load.ensures.runs;
+}
