@@ -1,1 +1,2 @@
 mod Preparing
+mod InStep

@@ -122,6 +122,9 @@ fn put_module<B: Board>(
     board.sync()
 }
 
+// More octets than the rows program.
+const MOST_OCTETS: usize = 50_000;
+
 // The list of this number, where there is one, and else of none.
 fn list_of(alloc: Global, number: Option<u64>) -> Result<Vec<u64>, AllocError> {
     match number {
@@ -143,7 +146,7 @@ pub(crate) fn stopping_board(
 ) -> Option<MemBoard> {
     let blocks = 84 + 2 * u32::from(capacity);
     let failing = list_of(alloc, failing).ok()?;
-    let mut board = MemBoard::new(alloc, blocks, failing, calls, 20_000).ok()?;
+    let mut board = MemBoard::new(alloc, blocks, failing, calls, MOST_OCTETS).ok()?;
     if put_module(&mut board, capacity, parts, image).is_ok() {
         Some(board)
     } else {

@@ -6,22 +6,22 @@ use edge_board::{BLOCK, Board, MemBoard, Pick};
 use module_store::{Store, open};
 use std::alloc::Global;
 
-const PICKS: [Pick; 4] = [Pick::Keep, Pick::Before, Pick::Fill(0x0f), Pick::Fill(0)];
+pub(crate) const PICKS: [Pick; 4] = [Pick::Keep, Pick::Before, Pick::Fill(0x0f), Pick::Fill(0)];
 
 // Octets of an image of one block, and of two.
 const SHORT: usize = 5;
 
-const LONG: usize = 5_000;
+pub(crate) const LONG: usize = 5_000;
 
 // More calls than an install makes.
 const MOST_CALLS: u64 = 62;
 
 // What the cells recover to: the sequence number, the size of the one image, and the octet that each of
 // its octets is.
-type Found = (u64, usize, u8);
+pub(crate) type Found = (u64, usize, u8);
 
 // Where nothing was installed.
-const NOTHING: Found = (0, 0, 0);
+pub(crate) const NOTHING: Found = (0, 0, 0);
 
 // The octets of an image block, where each of the first ones is this one.
 fn is_filled(board: &mut MemBoard, block: u16, size: usize, octet: u8) -> bool {
@@ -69,7 +69,7 @@ fn found(alloc: Global, board: &mut MemBoard) -> Option<Found> {
 }
 
 // The same after a power cut.
-fn found_after(alloc: Global, board: MemBoard, pick: Pick) -> Option<Found> {
+pub(crate) fn found_after(alloc: Global, board: MemBoard, pick: Pick) -> Option<Found> {
     match board.stopped(alloc, pick, 20, 0) {
         Ok(mut board) => found(alloc, &mut board),
         Err(_) => None,
@@ -85,7 +85,7 @@ fn install_filled(alloc: Global, board: &mut MemBoard, octet: u8, size: usize) -
 }
 
 // The banks where this one runs, over an image of the size in block 0, and block 1 where it is long.
-fn with_banks(
+pub(crate) fn with_banks(
     alloc: Global,
     bank: Option<Bank>,
     size: usize,

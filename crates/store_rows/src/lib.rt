@@ -6,8 +6,9 @@
 //! `module_store` and in the crates below it; the rows say what no clause can: vectors from outside,
 //! and that with ample memory an install comes to its end.
 //!
-//! A row is one call of a small function. `board` puts a module's board together from octets, and
-//! `run` streams and installs an image. The flash is that of `edge_board`'s board in memory.
+//! A row is one call of a small function. `board` puts a module's board together from octets, `run`
+//! streams and installs an image, and `rounds` does so again and again on one store that is kept in
+//! memory. The flash is that of `edge_board`'s board in memory.
 #![tactic(auto)]
 
 #[cfg(test)]
@@ -18,5 +19,7 @@ mod cuts;
 mod installs;
 #[cfg(test)]
 mod opens;
+#[cfg(test)]
+mod rounds;
 #[cfg(test)]
 mod run;

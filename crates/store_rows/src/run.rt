@@ -5,8 +5,10 @@ ghost use Rattle.edge_board.specs.Board.{IsSettled};
 ghost use Rattle.config_table.specs.State.{offer_of, with_package};
 ghost use Rattle.package_attrs.specs.Description.{description};
 ghost use Rattle.bank_layout.specs.Manifest.{named_blocks};
+ghost use Rattle.module_record.specs.ModuleRecord.{IsModule};
 ghost use Rattle.module_store.specs.Store.{CanPrepare, HasBlocks, IsQuiet, IsReady, IsStore, IsStoreOf, manifest_of};
 ghost use Rattle.store_rows.specs.Plain.{IsPlain};
+ghost use Rattle.store_rows.specs.InStep.{HasRoom, StreamsInto};
 
 use bank_layout::{Bank, FIRST_IMAGE_BLOCK, pool_of};
 use block_pool::{Pool, taken_blocks_are_live_too};
@@ -45,7 +47,7 @@ pub(crate) fn told(store: &Store) -> Told {
 const TARGETS: &[u8] = b"\x30\x04\x06\x02\x2a\x03";
 
 // The package 1.2.3.ID in a version (RFC 4108, section 2.2.3), without a type and needs.
-fn package(id: u8, version: u8) -> Option<Package<'static>>
+pub(crate) fn package(id: u8, version: u8) -> Option<Package<'static>>
     ensures plain { IfSome result (λ p. IsPlain (description p)) }
 {
     let id = read_oid(&[0x2a, 0x03, id])?;
@@ -69,7 +71,7 @@ fn package(id: u8, version: u8) -> Option<Package<'static>>
 }
 
 // Streams an image into free blocks of the pool.
-fn stream_image(
+pub(crate) fn stream_image(
     alloc: Global,
     pool: &mut Pool,
     board: &mut MemBoard,
@@ -77,6 +79,8 @@ fn stream_image(
 ) -> Option<Streamed>
     requires few { length image.now < 2 ^ 32 }
     requires lies { 84 + length pool.old ≤ (mem_view board.old).blocks }
+    ensures streams { IfSome result (λ streamed. StreamsInto pool.old pool.new streamed.blocks
+        (mem_view board.old) (mem_view board.new)) }
 {
     let front = &image[..image.len().min(6)];
     let size = image.len() as u32;
@@ -144,7 +148,7 @@ fn has_room_with(
     size: u32,
     numbers: &[u16],
 ) -> bool
-    requires valid { IsStore store.now }
+    requires owner { IsModule store.now.module }
     ensures digest { length digest ≡ 32 }
     ensures fit { IsTrue result → length (named_blocks (with_package
         (offer_of (description offered.now)) digest
@@ -161,6 +165,35 @@ fn has_room_with(
         Ok(next) => has_room(alloc, &next, store.module.capacity),
         Err(_) => false,
     }
+}
+
+// Whether the store has room for the package with an image that was streamed.
+pub(crate) fn takes_in(
+    alloc: Global,
+    store: &Store,
+    offered: &Package<'_>,
+    streamed: &Streamed,
+) -> bool
+    requires owner { IsModule store.now.module }
+    ensures stored { IsTrue result → IsSome streamed.now.blocks }
+    ensures room { IsTrue result → HasRoom store.now (offer_of (description offered.now))
+        streamed.now.image_digest (record {
+          length = streamed.now.length;
+          blocks = unwrap_or streamed.now.blocks [];
+        }) }
+{
+    let Some(blocks) = &streamed.blocks else {
+        return false;
+    };
+    let numbers = blocks.numbers();
+    let size = streamed.length;
+    if store.sequence > MOST_INSTALLS
+        || size == 0
+        || numbers.len() != size.div_ceil(BLOCK) as usize
+    {
+        return false;
+    }
+    has_room_with(alloc, store, offered, streamed.image_digest, size, numbers)
 }
 
 // Takes the blocks of an image that was streamed, where the store has room for the package with it:
@@ -185,21 +218,13 @@ fn takes_blocks(
     ensures manifest { manifest_of store.new ≡ manifest_of store.old }
 {
     taken_blocks_are_live_too();
-    let Some(blocks) = &streamed.blocks else {
-        return false;
-    };
-    let numbers = blocks.numbers();
-    let size = streamed.length;
-    if store.sequence > MOST_INSTALLS
-        || size == 0
-        || numbers.len() != size.div_ceil(BLOCK) as usize
-    {
+    if !takes_in(alloc, store, offered, streamed) {
         return false;
     }
-    if !has_room_with(alloc, store, offered, streamed.image_digest, size, numbers) {
-        return false;
+    match &streamed.blocks {
+        Some(blocks) => store.pool.hold(blocks.numbers()),
+        None => false,
     }
-    store.pool.hold(numbers)
 }
 
 // Makes the install of the package ready. None where its blocks aren't taken.
