@@ -3,7 +3,7 @@
 # standard streams, files that may only be read, full disks and closed pipes. In use: tests/edge.sh [PROGRAM]
 # Its last line is 'N passed, N failed', and it ends with 1 where one failed. All that it makes lies in a
 # folder of its own.
-[ -n "${EDGE_IS_TIMED-}" ] || EDGE_IS_TIMED=1 exec timeout 100 "$0" "$@"
+[ -n "${EDGE_IS_TIMED-}" ] || EDGE_IS_TIMED=1 exec timeout 200 "$0" "$@"
 set -u
 given=$(realpath "${1:-$(dirname "$0")/../crates/fwload/out/fwload}")
 room=$(mktemp -d)
@@ -81,6 +81,7 @@ anchor root a1 $public -
 RECIPE
 cp keys packed
 "$program" packed pack <pack.recipe >package || exit 1
+sed 's/^signer .*/signer a1/' pack.recipe | "$program" packed pack >accepted || exit 1
 "$program" module make <make.recipe >made || exit 1
 "$program" module list >listed || exit 1
 printf '\x30\x05\x04\x03\x41\x42\x43' >name
@@ -94,6 +95,7 @@ key-new key-new.recipe none
 make make.recipe none
 list name module
 explain:20300101000000 package module
+load:20300101000000 accepted module
 issue issue.recipe keys
 pack pack.recipe keys'
 
@@ -167,9 +169,43 @@ if command -v flock >flock; then
     is 'pack beside a reader ends with 4' 4 "$(flock -s flash "$program" flash pack <pack.recipe >out; echo $?)"
     is 'and sends nothing' 0 "$(wc -c <out)"
     same 'and leaves the flash' keys flash
+    fresh module
+    is 'load beside a reader ends with 4' 4 "$(flock -s flash "$program" flash load 20300101000000 <accepted >out; echo $?)"
+    is 'load beside a reader sends nothing' 0 "$(wc -c <out)"
+    same 'load beside a reader leaves the flash' module flash
+    is 'load beside a writer ends with 4' 4 "$(flock -x flash "$program" flash load 20300101000000 <accepted >out; echo $?)"
+    is 'load of nothing beside a reader answers' 0 "$(flock -s flash "$program" flash load 20300101000000 </dev/null >out; echo $?)"
 else
     echo 'skipped: flock is not there'
 fi
+
+# each load of one package beside 15 others: what is installed is what was answered
+for round in {1..6}; do
+    fresh module
+    for n in {1..16}; do
+        ( "$program" flash load 20300101000000 <accepted >"out.$n"; echo $? >"status.$n" ) &
+    done
+    wait
+    good=$(done_with 0)
+    count=$(wc -w <<<"$good")
+    is "load, round $round: as many are installed as answers came" "sequence $count" "$("$program" flash list | sed -n 2p)"
+    is "load, round $round: no leaf signs two answers" "$count" "$(for n in $good; do leaf "out.$n"; echo; done | sort -u | grep -c .)"
+    is "load, round $round: as many leaves are spent" "$count" "$(spent flash)"
+    is "load, round $round: any other run ends with 4" $((16 - count)) "$(done_with 4 | wc -w)"
+    is "load, round $round: and sends nothing" 0 "$(for n in $(done_with 4); do cat "out.$n"; done | wc -c)"
+done
+
+# --- a pipe that is closed while load answers, before it could take all answers: what was answered whole is installed, and
+# one more at most
+
+fresh module
+status=$(for n in {1..40}; do cat accepted; done | { "$program" flash load 20300101000000; echo $? >status.load; } |
+    head -c 10000 | wc -c; cat status.load)
+is 'load to a pipe that is closed behind 10,000 octets ends with 4' '10000 4' "$(echo $status)"
+installed=$("$program" flash list | sed -n 's/^sequence //p')
+is 'load to it installs what it answers, or one more' yes "$([ "$installed" -ge 3 ] && [ "$installed" -eq "$(spent flash)" ] && echo yes || echo "$installed")"
+is 'load goes on behind it' 0 "$(run flash load 20300101000000 <accepted)"
+is 'and installs' "sequence $((installed + 1))" "$("$program" flash list | sed -n 2p)"
 
 # --- closed standard streams
 
@@ -282,6 +318,10 @@ if "${as[@]}" true 2>setpriv; then
     is 'list of a file that may only be read' 0 "$(others shut/module list)"
     same 'list of a file that may only be read answers' listed out
     is 'explain over a file that may only be read' 1 "$(others shut/module explain 20300101000000 <package)"
+    is 'load over a file that may only be read' 4 "$(others shut/module load 20300101000000 <accepted)"
+    is 'load over it sends nothing' 0 "$(wc -c <out)"
+    is 'load of what is no package over it answers' 1 "$(others shut/module load 20300101000000 <name)"
+    same 'load leaves it' module shut/module
     is 'pack over a file that may only be read' 4 "$(others shut/keys pack <pack.recipe)"
     is 'and sends nothing' 0 "$(wc -c <out)"
     same 'and leaves it' keys shut/keys
